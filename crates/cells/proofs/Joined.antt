@@ -1,0 +1,121 @@
+-- What the code reads is what the cells say: two bytes joined and shifted are the octet, and the data cells of two octets the data byte.
+use mathlib.Core.Path.{_≡_, sym, ap, ap₂, _∙_}
+use mathlib.Core.List.{List}
+use Prim.Native.Nat.{ℕ, zero, suc, _+_, _-_, _*_, _/_, _%_, _^_, _<_, _≤_}
+use native.Mathlib.Nat.{mod-one, zero-add, add-zero, zero-mul, mul-one, suc-add, add-mul, mul-assoc, add-assoc, div-one}
+use native.Mathlib.Numerals.{one-add}
+use native.Mathlib.Omega.{arith}
+use lib.ListN.{getD}
+use lib.Pow.{mod-pow-add, shr-shr, pow-add}
+use Rattle.cells.proofs.Digits.{digit0, digit2, digit4, digit6}
+use Rattle.cells.specs.Cells.{cell, byteOf, octet, dataByte}
+
+-- Every cell is 0 or 1.
+pub cell-lt : (s : List ℕ) (i : ℕ) → cell s i < 2
+unfolding cell
+cell-lt s i = omega arith
+
+-- The n cells from cell i on, as a number, the first of them the highest.
+abbrev cellsFrom : List ℕ → ℕ → ℕ → ℕ
+cellsFrom s zero i = 0
+cellsFrom s (suc n) i = cell s i * 2 ^ n + cellsFrom s n (i + 1)
+
+-- one digit more at the top
+top : (a t n : ℕ) → a / 2 ^ (t + n) % 2 * 2 ^ n + a / 2 ^ t % 2 ^ n ≡ a / 2 ^ t % 2 ^ suc n
+top a t n = sym (rw (← one-add n) (mod-pow-add (a / 2 ^ t) 1 n ∙ rw (shr-shr a t n)))
+
+-- cells of one byte
+in-byte : (s : List ℕ) (n i : ℕ) → i % 8 + n ≤ 8 → cellsFrom s n i ≡ getD s (i / 8) 0 / 2 ^ (8 - (i % 8 + n)) % 2 ^ n
+unfolding cell
+in-byte s zero i h = sym (mod-one _)
+in-byte s (suc zero) i h =
+    let e : 7 - i % 8 ≡ 8 - (i % 8 + 1) = omega arith in
+    rw (e, add-zero, mul-one)
+in-byte s (suc (suc n)) i h =
+    let e : (i + 1) / 8 ≡ i / 8 = omega arith in
+    let g : 8 - ((i + 1) % 8 + suc n) ≡ 8 - (i % 8 + suc (suc n)) = omega arith in
+    let k : 7 - i % 8 ≡ 8 - (i % 8 + suc (suc n)) + suc n = omega arith in
+    ap₂ (λ (x y : ℕ). getD s (i / 8) 0 / 2 ^ x % 2 * 2 ^ suc n + y) k
+    (in-byte s (suc n) (i + 1) (omega arith) ∙ ap₂ (λ (x y : ℕ). getD s x 0 / 2 ^ y % 2 ^ suc n) e g)
+    ∙ top (getD s (i / 8) 0) (8 - (i % 8 + suc (suc n))) (suc n)
+
+-- cells of two stretches
+cells-add : (s : List ℕ) (n m i : ℕ) → cellsFrom s (n + m) i ≡ cellsFrom s n i * 2 ^ m + cellsFrom s m (i + n)
+cells-add s zero m i = rw (zero-add m, zero-mul, zero-add, add-zero)
+cells-add s (suc n) m i =
+    let e : i + suc n ≡ i + 1 + n = omega arith in
+    rw (suc-add n m, e, cells-add s n m (i + 1), pow-add 2 n m, ← mul-assoc, ← add-assoc, ← add-mul)
+
+window : (a b k : ℕ) → a < 256 → b < 256 → k < 8 → (a * 256 + b) / 2 ^ (8 - k) % 256 ≡ a % 2 ^ (8 - k) * 2 ^ k + b / 2 ^ (8 - k) % 2 ^ k
+window a b zero ha hb h = omega arith
+window a b (suc zero) ha hb h = omega arith
+window a b (suc (suc zero)) ha hb h = omega arith
+window a b (suc (suc (suc zero))) ha hb h = omega arith
+window a b (suc (suc (suc (suc zero)))) ha hb h = omega arith
+window a b (suc (suc (suc (suc (suc zero))))) ha hb h = omega arith
+window a b (suc (suc (suc (suc (suc (suc zero)))))) ha hb h = omega arith
+window a b (suc (suc (suc (suc (suc (suc (suc zero))))))) ha hb h = omega arith
+window a b (suc (suc (suc (suc (suc (suc (suc (suc k)))))))) ha hb h = absurd (omega arith)
+
+eight : (s : List ℕ) (i : ℕ) → cellsFrom s 8 i ≡ octet (cell s) i
+unfolding octet
+eight s i = simp (add-assoc i) (omega arith)
+
+-- The two bytes at a cell, joined, and the window that begins in the first of them, are the octet.
+pub joined : (s : List ℕ) (i : ℕ) → getD s (i / 8) 0 < 256 → getD s (i / 8 + 1) 0 < 256
+    → (getD s (i / 8) 0 * 256 + getD s (i / 8 + 1) 0) / 2 ^ (8 - i % 8) % 256 ≡ octet (cell s) i
+joined s i ha hb =
+    let k : i % 8 < 8 = omega arith in
+    let e : 8 - i % 8 + i % 8 ≡ 8 = omega arith in
+    let p : 8 - (i % 8 + (8 - i % 8)) ≡ 0 = omega arith in
+    let q : (i + (8 - i % 8)) / 8 ≡ i / 8 + 1 = omega arith in
+    let r : 8 - ((i + (8 - i % 8)) % 8 + i % 8) ≡ 8 - i % 8 = omega arith in
+    window (getD s (i / 8) 0) (getD s (i / 8 + 1) 0) (i % 8) ha hb k
+    ∙ sym (ap (λ (n : ℕ). cellsFrom s n i) (sym e) ∙ cells-add s (8 - i % 8) (i % 8) i
+    ∙ ap₂ (λ (x y : ℕ). x * 2 ^ (i % 8) + y)
+    (in-byte s (8 - i % 8) i (omega arith) ∙ rw (p, div-one))
+    (in-byte s (i % 8) (i + (8 - i % 8)) (omega arith) ∙ rw (q, r)))
+    ∙ eight s i
+
+-- The four data cells of an octet, as the code takes them out.
+abbrev pub nibbleOf : ℕ → ℕ
+nibbleOf x = x / 64 % 2 * 8 + x / 16 % 2 * 4 + x / 4 % 2 * 2 + x % 2
+
+-- The data cells of two octets are the data byte.
+pub nibble-digits : (a b c d e f g h : ℕ) → a < 2 → b < 2 → c < 2 → d < 2 → e < 2 → f < 2 → g < 2 → h < 2
+    → nibbleOf (byteOf a b c d e f g h) ≡ b * 8 + d * 4 + f * 2 + h
+nibble-digits a b c d e f g h ha hb hc hd he hf hg hh =
+    rw (
+      digit6 a b c d e f g h ha hb hc hd he hf hg hh,
+      digit4 a b c d e f g h ha hb hc hd he hf hg hh,
+      digit2 a b c d e f g h ha hb hc hd he hf hg hh,
+      digit0 a b c d e f g h ha hb hc hd he hf hg hh,
+    )
+
+octet-nibble : (c : ℕ → ℕ) → ((i : ℕ) → c i < 2) → (p : ℕ) → nibbleOf (octet c p) ≡ c (p + 1) * 8 + c (p + 3) * 4 + c (p + 5) * 2 + c (p + 7)
+unfolding octet
+octet-nibble c bit p =
+    nibble-digits (c p) (c (p + 1)) (c (p + 2)) (c (p + 3)) (c (p + 4)) (c (p + 5)) (c (p + 6)) (c (p + 7))
+    (bit p) (bit (p + 1)) (bit (p + 2)) (bit (p + 3)) (bit (p + 4)) (bit (p + 5)) (bit (p + 6)) (bit (p + 7))
+
+pub data-octets : (c : ℕ → ℕ) → ((i : ℕ) → c i < 2) → (p : ℕ) → nibbleOf (octet c p) * 16 + nibbleOf (octet c (p + 8)) ≡ dataByte c p
+unfolding dataByte
+data-octets c bit p = rw (octet-nibble c bit p, octet-nibble c bit (p + 8)) (simp (add-assoc p) (omega arith))
+
+-- The octet, as the code reads it: a and b are the two image bytes, r the window.
+pub octet-read : (s : List ℕ) (i a b r : ℕ) → a < 256 → b < 256 → a ≡ getD s (i / 8) 0 → b ≡ getD s (i / 8 + 1) 0
+    → r ≡ (a * 256 + b) / 2 ^ (8 - i % 8) % 256 → r ≡ octet (cell s) i
+octet-read s i a b r ha hb ea eb er = er ∙ rw (ea, eb) (joined s i (rw (← ea) ha) (rw (← eb) hb))
+
+-- The data byte, as the code reads it: a, b and d are the three image bytes, x and y the two windows.
+pub data-read : (s : List ℕ) (i a b d x y : ℕ) → a < 256 → b < 256 → d < 256
+    → a ≡ getD s (i / 8) 0 → b ≡ getD s (i / 8 + 1) 0 → d ≡ getD s (i / 8 + 2) 0
+    → x ≡ (a * 256 + b) / 2 ^ (8 - i % 8) % 256 → y ≡ (b * 256 + d) / 2 ^ (8 - i % 8) % 256
+    → nibbleOf x * 16 + nibbleOf y ≡ dataByte (cell s) i
+data-read s i a b d x y ha hb hd ea eb ed ex ey =
+    let q : (i + 8) / 8 ≡ i / 8 + 1 = omega arith in
+    let q2 : (i + 8) / 8 + 1 ≡ i / 8 + 2 = omega arith in
+    let k : (i + 8) % 8 ≡ i % 8 = omega arith in
+    let ox = octet-read s i a b x ha hb ea eb ex in
+    let oy = octet-read s (i + 8) b d y hb hd (rw q eb) (rw q2 ed) (rw k ey) in
+    rw (ox, oy) (data-octets (cell s) (cell-lt s) i)

@@ -1,0 +1,4 @@
+pub mod Table
+pub mod Digits
+pub mod Joined
+pub mod Coding

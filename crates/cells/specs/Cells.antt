@@ -1,0 +1,24 @@
+-- The cells of an image, and what eight or sixteen of them hold. An image is bytes, eight cells each, most significant bit first; it
+-- begins at the index hole and does not wrap round (01, "The image and the four layouts"). Past the image's end every cell is 0, so
+-- that each definition has a value at every cell. From the octet on, all is said of a function c, whose value c i is cell i.
+use Prim.Native.Nat.{ℕ, _+_, _-_, _*_, _/_, _%_, _^_}
+use mathlib.Core.List.{List}
+use lib.ListN.{getD}
+
+-- Cell i of an image (01, "The image and the four layouts").
+unfoldable pub cell : List ℕ → ℕ → ℕ
+cell image i = getD image (i / 8) 0 / 2 ^ (7 - i % 8) % 2
+
+-- Eight bits as a byte, the first of them B8, the most significant (004, 4.7).
+abbrev pub byteOf : ℕ → ℕ → ℕ → ℕ → ℕ → ℕ → ℕ → ℕ → ℕ
+byteOf a b c d e f g h = 128 * a + 64 * b + 32 * c + 16 * d + 8 * e + 4 * f + 2 * g + h
+
+-- The eight cells from cell p on, as a byte; p may stand on a byte boundary or not (01, "How a track is read").
+unfoldable pub octet : (ℕ → ℕ) → ℕ → ℕ
+octet c p = byteOf (c p) (c (p + 1)) (c (p + 2)) (c (p + 3)) (c (p + 4)) (c (p + 5)) (c (p + 6)) (c (p + 7))
+
+-- The data byte of the sixteen cells from cell p on: clock cell, data cell, eight times, B8 first; only the data cells count
+-- (01, "The image and the four layouts" and "How a track is read").
+unfoldable pub dataByte : (ℕ → ℕ) → ℕ → ℕ
+dataByte c p =
+    byteOf (c (p + 1)) (c (p + 3)) (c (p + 5)) (c (p + 7)) (c (p + 9)) (c (p + 11)) (c (p + 13)) (c (p + 15))

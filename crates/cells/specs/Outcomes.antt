@@ -1,0 +1,20 @@
+-- What each public function of this crate promises. They are total: they take every image, every cell number, every bit and byte.
+use Prim.Native.Nat.{ℕ}
+use mathlib.Core.Path.{_≡_}
+use mathlib.Core.List.{List}
+use Rattle.cells.specs.Cells.{cell, octet, dataByte}
+use Rattle.cells.specs.Coding.{codedByte}
+use Rattle.cells.specs.declared.Mode.{Mode}
+use Rattle.cells.specs.declared.Pair.{Pair}
+
+-- `octet` answers the eight cells from a place on.
+abbrev pub IsOctet : List ℕ → ℕ → ℕ → Type 0
+IsOctet image place answer = answer ≡ octet (cell image) place
+
+-- `data_byte` answers the data byte of the sixteen cells from a place on.
+abbrev pub IsDataByte : List ℕ → ℕ → ℕ → Type 0
+IsDataByte image place answer = answer ≡ dataByte (cell image) place
+
+-- `coded` answers the two image bytes of a byte after the bit before it.
+abbrev pub IsCoded : Mode → ℕ → ℕ → Pair → Type 0
+IsCoded mode before byte answer = answer ≡ codedByte mode before byte
