@@ -119,3 +119,63 @@ data-read s i a b d x y ha hb hd ea eb ed ex ey =
     let ox = octet-read s i a b x ha hb ea eb ex in
     let oy = octet-read s (i + 8) b d y hb hd (rw q eb) (rw q2 ed) (rw k ey) in
     rw (ox, oy) (data-octets (cell s) (cell-lt s) i)
+
+-- On a byte boundary the octet is the image's byte.
+pub aligned : (s : List ℕ) (k : ℕ) → getD s k 0 < 256 → getD s (k + 1) 0 < 256 → octet (cell s) (8 * k) ≡ getD s k 0
+aligned s k ha hb =
+    let e : 8 * k / 8 ≡ k = omega arith in
+    let z : 8 * k % 8 ≡ 0 = omega arith in
+    sym (joined s (8 * k) (rw e ha) (rw e hb)) ∙ rw (e, z) (omega arith)
+
+-- Sixteen cells are each 0 or 1.
+record Sixteen (c : ℕ → ℕ) (p : ℕ) : Type 0 where
+  c0 : c p < 2
+  c1 : c (p + 1) < 2
+  c2 : c (p + 2) < 2
+  c3 : c (p + 3) < 2
+  c4 : c (p + 4) < 2
+  c5 : c (p + 5) < 2
+  c6 : c (p + 6) < 2
+  c7 : c (p + 7) < 2
+  c8 : c (p + 8) < 2
+  c9 : c (p + 9) < 2
+  c10 : c (p + 10) < 2
+  c11 : c (p + 11) < 2
+  c12 : c (p + 12) < 2
+  c13 : c (p + 13) < 2
+  c14 : c (p + 14) < 2
+  c15 : c (p + 15) < 2
+
+-- The octet that begins 8 - s cells after p lies in the two octets from p on.
+pub between : (c : ℕ → ℕ) → ((i : ℕ) → c i < 2) → (p s : ℕ) → s < 8
+    → octet c (p + (8 - s)) ≡ (octet c p * 256 + octet c (p + 8)) / 2 ^ s % 256
+unfolding octet
+between c bit p s h = go s h (record {
+  c0 = bit p;
+  c1 = bit (p + 1);
+  c2 = bit (p + 2);
+  c3 = bit (p + 3);
+  c4 = bit (p + 4);
+  c5 = bit (p + 5);
+  c6 = bit (p + 6);
+  c7 = bit (p + 7);
+  c8 = bit (p + 8);
+  c9 = bit (p + 9);
+  c10 = bit (p + 10);
+  c11 = bit (p + 11);
+  c12 = bit (p + 12);
+  c13 = bit (p + 13);
+  c14 = bit (p + 14);
+  c15 = bit (p + 15);
+})
+  where
+    go : (s : ℕ) → s < 8 → Sixteen c p → octet c (p + (8 - s)) ≡ (octet c p * 256 + octet c (p + 8)) / 2 ^ s % 256
+    go zero h b = simp (add-assoc p) (omega arith)
+    go (suc zero) h b = simp (add-assoc p) (omega arith)
+    go (suc (suc zero)) h b = simp (add-assoc p) (omega arith)
+    go (suc (suc (suc zero))) h b = simp (add-assoc p) (omega arith)
+    go (suc (suc (suc (suc zero)))) h b = simp (add-assoc p) (omega arith)
+    go (suc (suc (suc (suc (suc zero))))) h b = simp (add-assoc p) (omega arith)
+    go (suc (suc (suc (suc (suc (suc zero)))))) h b = simp (add-assoc p) (omega arith)
+    go (suc (suc (suc (suc (suc (suc (suc zero))))))) h b = simp (add-assoc p) (omega arith)
+    go (suc (suc (suc (suc (suc (suc (suc (suc s)))))))) h b = absurd (omega arith)

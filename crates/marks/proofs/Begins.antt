@@ -1,0 +1,110 @@
+-- Where a mark begins in one byte, the next byte lies wholly inside it, and so tells in which cells a mark can begin.
+use mathlib.Core.Path.{_≡_, sym, ap, _∙_}
+use mathlib.Core.Bool.{Bool, true, false, _||_}
+use mathlib.Core.List.{List}
+use Prim.Native.Nat.{ℕ, _+_, _-_, _*_, _/_, _%_, _^_, _<_}
+use native.Mathlib.Omega.{arith}
+use lib.Dec.{T, eqb, eqb→eq}
+use native.Mathlib.Nat.{add-zero, zero-div}
+use lib.ListN.{length, getD}
+use Rattle.cells.specs.Cells.{cell, byteOf, octet}
+use Rattle.cells.specs.declared.Mode.{Mode}
+use Rattle.cells.specs.declared.Mode.the-variants.{Fm, Mfm}
+use Rattle.cells.proofs.Joined.{between, aligned, cell-lt}
+use Rattle.cells.proofs.Table.{all, all-at}
+use Rattle.marks.specs.Marks.{string, stands}
+use Rattle.marks.specs.Search.{some, Rules}
+use Rattle.marks.specs.declared.Mark.{Mark}
+use Rattle.marks.specs.declared.Mark.the-variants.{Index, Identifier, Data, Control, Open}
+use Rattle.marks.specs.declared.Kinds.{Kinds}
+use Rattle.marks.proofs.Spelling.{Stand, stands-bytes, is-false}
+use Rattle.marks.proofs.Searching.{searchable, standing-none, some-none}
+
+-- The byte that follows the one in which a mark begins, s cells from that byte's start: the window over the mark's first two bytes.
+abbrev inside : Mode → Mark → ℕ → ℕ
+inside mode mark s = (getD (string mode mark) 0 0 * 256 + getD (string mode mark) 1 0) / 2 ^ s % 256
+
+-- 1 where some mark that begins s cells into a byte has the byte b behind it.
+abbrev may : Mode → ℕ → ℕ → ℕ
+may mode b s =
+    elim (eqb (inside mode Identifier s) b || (eqb (inside mode Data s) b || (eqb (inside mode Control s) b || eqb (inside mode Open s) b))) [
+      | true ↦ 1
+      | false ↦ 0
+    ]
+
+-- In which cells a mark may begin: what the code's tables hold.
+abbrev pub begins : Mode → ℕ → ℕ
+begins mode b = byteOf (may mode b 0) (may mode b 1) (may mode b 2) (may mode b 3) (may mode b 4) (may mode b 5) (may mode b 6) (may mode b 7)
+
+-- A mark's own byte has the bit of its cell: one test for each mark, at the eight cells.
+kept : Mode → Mark → ℕ → Bool
+kept mode mark s = eqb (begins mode (inside mode mark s) / 2 ^ (7 - s) % 2) 1
+
+all-kept : (mode : Mode) (mark : Mark) → T (searchable mark) → T (all (kept mode mark) 8)
+unfolding kept
+all-kept mode Index t = absurd t
+all-kept Fm Identifier t = tt
+all-kept Fm Data t = tt
+all-kept Fm Control t = tt
+all-kept Fm Open t = tt
+all-kept Mfm Identifier t = tt
+all-kept Mfm Data t = tt
+all-kept Mfm Control t = tt
+all-kept Mfm Open t = tt
+
+-- The two first bytes of a mark that stands.
+firsts : (mode : Mode) (mark : Mark) (c : ℕ → ℕ) (p : ℕ) → Stand c p (string mode mark)
+    → (octet c p ≡ getD (string mode mark) 0 0) × (octet c (p + 8) ≡ getD (string mode mark) 1 0)
+firsts Fm Index c p e = (e .0, e .1 .0)
+firsts Fm Identifier c p e = (e .0, e .1 .0)
+firsts Fm Data c p e = (e .0, e .1 .0)
+firsts Fm Control c p e = (e .0, e .1 .0)
+firsts Fm Open c p e = (e .0, e .1 .0)
+firsts Mfm Index c p e = (e .0, e .1 .0)
+firsts Mfm Identifier c p e = (e .0, e .1 .0)
+firsts Mfm Data c p e = (e .0, e .1 .0)
+firsts Mfm Control c p e = (e .0, e .1 .0)
+firsts Mfm Open c p e = (e .0, e .1 .0)
+
+-- Where the byte's bit is 0, no mark begins.
+pub rules : (mode : Mode) (byte : ℕ) → Rules mode byte (begins mode byte)
+unfolding kept
+rules mode byte c bit n p kinds e z = standing-none mode c n kinds p (λ mark t. is-false (stands mode c n mark p) (λ s. no mark t s))
+  where
+    no : (mark : Mark) → T (searchable mark) → stands mode c n mark p ≡ true → ⊥
+    no mark t s =
+        let shift : p % 8 < 8 = omega arith in
+        let two = firsts mode mark c p (stands-bytes mode c n mark p s) in
+        let place : 8 * (p / 8 + 1) ≡ p + (8 - p % 8) = omega arith in
+        let here : byte ≡ inside mode mark (p % 8) = sym e ∙ ap (octet c) place ∙ between c bit p (p % 8) shift ∙ rw (two .0, two .1) in
+        let one : begins mode (inside mode mark (p % 8)) / 2 ^ (7 - p % 8) % 2 ≡ 1 =
+        eqb→eq _ 1 (all-at (kept mode mark) 8 (all-kept mode mark t) (p % 8) shift) in
+        let zero′ : begins mode (inside mode mark (p % 8)) / 2 ^ (7 - p % 8) % 2 ≡ 0 = rw (← here) z in
+        let w : _≡_ {A = ℕ} 0 1 = sym zero′ ∙ one in
+        omega arith
+
+-- What the code's table gives, in the mode that an arm of the code knows.
+pub rules-by : {mode : Mode} (m : Mode) (byte r : ℕ) → mode ≡ m → r ≡ begins m byte → Rules mode byte r
+rules-by m byte r e f = rw (e, f) (rules m byte)
+
+-- ---- what the search passes over: image is the list of the image's bytes, and next the byte behind that of place
+
+module _ (mode : Mode) (kinds : Kinds) (image : List ℕ) (place begin : ℕ)
+    (byte : getD image (place / 8 + 1) 0 < 256) (behind : getD image (place / 8 + 1 + 1) 0 < 256)
+    (known : Rules mode (getD image (place / 8 + 1) 0) begin) where
+  -- the places of one byte, by the bit of each
+  passed : (j : ℕ) → place + j < 8 * (place / 8 + 1) → begin / 2 ^ (7 - (place + j) % 8) % 2 ≡ 0
+      → some mode (cell image) (8 * length image) kinds (place + j) ≡ false
+  passed j h z =
+      let e : (place + j) / 8 ≡ place / 8 = omega arith in
+      some-none mode (cell image) (8 * length image) kinds (place + j)
+      (known (cell image) (cell-lt image) (8 * length image) (place + j) kinds
+      (rw e (aligned image (place / 8 + 1) byte behind)) z)
+
+  -- one place
+  pub passed-one : begin / 2 ^ (7 - place % 8) % 2 ≡ 0 → some mode (cell image) (8 * length image) kinds place ≡ false
+  passed-one z = rw add-zero at (passed 0 (omega arith) (rw add-zero z))
+
+  -- all the places up to the next byte
+  pub passed-all : begin ≡ 0 → (j : ℕ) → j < 8 * (place / 8 + 1) - place → some mode (cell image) (8 * length image) kinds (place + j) ≡ false
+  passed-all z j h = passed j (omega arith) (rw (z, zero-div))

@@ -1,0 +1,4 @@
+pub mod Spelling
+pub mod Searching
+pub mod Begins
+pub mod Clash

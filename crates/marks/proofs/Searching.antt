@@ -1,0 +1,124 @@
+-- Laws of the search: what is passed over, what is found, and that what is found lies in the range and stands there.
+use mathlib.Core.Path.{_≡_, refl, sym, ap, _∙_}
+use mathlib.Core.Bool.{Bool, true, false, _&&_, and-false}
+use Prim.Native.Nat.{ℕ, zero, suc, _+_, _-_, _*_, _/_, _<_, _≤_}
+use native.Mathlib.Nat.{add-zero}
+use native.Mathlib.Omega.{arith}
+use native.Mathlib.Decide.{decLe}
+use mathlib.Core.Logic.{_⊎_, inl, inr, ⊎-elim}
+use lib.Dec.{T}
+use lib.ListN.{length}
+use Rattle.cells.specs.declared.Mode.{Mode}
+use Rattle.cells.specs.declared.Mode.the-variants.{Fm, Mfm}
+use Rattle.marks.specs.Marks.{string, stands}
+use Rattle.marks.specs.Search.{nowhere, at, find, among, sought, standing, some, named, firstMark}
+use Rattle.marks.specs.declared.Mark.{Mark}
+use Rattle.marks.specs.declared.Mark.the-variants.{Index, Identifier, Data, Control, Open}
+use Rattle.marks.specs.declared.Kinds.{Kinds}
+use Rattle.marks.specs.declared.Found.{Found}
+use Rattle.marks.specs.declared.Found.the-variants.{At, Nothing}
+use Rattle.marks.proofs.Spelling.{lies-beyond, string-length}
+
+le-or-lt : (a b : ℕ) → (a ≤ b) ⊎ (b < a)
+le-or-lt a b = elim (decLe a b) [ yes h ↦ inl h | no h ↦ inr (omega arith) ]
+
+module _ (test : ℕ → Bool) where
+  -- no place is left
+  pub find-end : (p to : ℕ) → to ≤ p → find test (to - p) p ≡ nowhere
+  unfolding find
+  find-end p to h =
+      let e : to - p ≡ 0 = omega arith in
+      ap (λ (k : ℕ). find test k p) e
+
+  -- what the place p itself says
+  find-here : (p to : ℕ) → p < to → find test (to - p) p ≡ elim (test p) [ true ↦ at p | false ↦ find test (to - suc p) (suc p) ]
+  unfolding find
+  find-here p to h =
+      let e : to - p ≡ suc (to - suc p) = omega arith in
+      ap (λ (k : ℕ). find test k p) e
+
+  pub find-hit : (p to : ℕ) → p < to → test p ≡ true → find test (to - p) p ≡ at p
+  find-hit p to h t = find-here p to h ∙ rw t
+
+  -- places at which the test fails are passed over
+  pub find-skip : (k p to : ℕ) → ((j : ℕ) → j < k → test (p + j) ≡ false) → find test (to - p) p ≡ find test (to - (p + k)) (p + k)
+  find-skip zero p to none = rw add-zero
+  find-skip (suc k) p to none =
+      ⊎-elim past (within (find-skip k (suc p) to (λ j l. let q : suc p + j ≡ p + suc j = omega arith in rw q (none (suc j) (omega arith)))))
+      (le-or-lt to p)
+    where
+      past : to ≤ p → find test (to - p) p ≡ find test (to - (p + suc k)) (p + suc k)
+      past h = find-end p to h ∙ sym (find-end (p + suc k) to (omega arith))
+
+      within : find test (to - suc p) (suc p) ≡ find test (to - (suc p + k)) (suc p + k) → p < to
+          → find test (to - p) p ≡ find test (to - (p + suc k)) (p + suc k)
+      within rest h =
+          let e : suc p + k ≡ p + suc k = omega arith in
+          let off : test p ≡ false = rw add-zero at (none 0 (omega arith)) in
+          find-here p to h ∙ rw (off, ← e) rest
+
+  -- where the test fails from p on, nothing is found
+  pub find-none : (k p : ℕ) → ((q : ℕ) → p ≤ q → test q ≡ false) → find test k p ≡ nowhere
+  unfolding find
+  find-none zero p none = refl
+  find-none (suc k) p none = rw (none p (omega arith), find) (find-none k (suc p) (λ q l. none q (omega arith)))
+
+-- A mark that can be looked for: any but the index mark.
+abbrev pub searchable : Mark → Bool
+searchable Index = false
+searchable Identifier = true
+searchable Data = true
+searchable Control = true
+searchable Open = true
+
+-- Every mark has two bytes or more.
+pub string-two : (mode : Mode) (mark : Mark) → 2 ≤ length (string mode mark)
+string-two mode mark = rw (string-length mode mark Open) (two mode)
+  where
+    two : (mode : Mode) → 2 ≤ length (string mode Open)
+    two Fm = omega arith
+    two Mfm = omega arith
+
+module _ (mode : Mode) (c : ℕ → ℕ) (n : ℕ) (kinds : Kinds) where
+  -- Where no mark stands that can be looked for, none is found.
+  pub standing-none : (p : ℕ) → ((mark : Mark) → T (searchable mark) → stands mode c n mark p ≡ false) → standing mode c n kinds p ≡ Nothing
+  unfolding standing sought
+  standing-none p none = rw (off Identifier tt, off Data tt, off Control tt, off Open tt)
+    where
+      off : (mark : Mark) → T (searchable mark) → (among kinds mark && stands mode c n mark p) ≡ false
+      off mark t = ap (λ (b : Bool). among kinds mark && b) (none mark t) ∙ and-false (among kinds mark)
+
+  -- What `standing` says of a place decides the search's test there.
+  pub some-none : (p : ℕ) → standing mode c n kinds p ≡ Nothing → some mode c n kinds p ≡ false
+  unfolding some
+  some-none p e = rw e
+
+  pub some-found : (p q : ℕ) (mark : Mark) → standing mode c n kinds p ≡ At q mark → some mode c n kinds p ≡ true
+  unfolding some
+  some-found p q mark e = rw e
+
+  -- No mark begins in the last byte of an image of k bytes, or behind it.
+  pub standing-beyond : (p k : ℕ) → n ≡ 8 * k → k ≤ p / 8 + 1 → standing mode c n kinds p ≡ Nothing
+  unfolding stands
+  standing-beyond p k e h = standing-none p (λ mark _. lies-beyond c n (string mode mark) p (omega (arith, string-two mode mark)))
+
+  -- A mark that is not of the kinds is not looked at.
+  pub sought-on : (p : ℕ) (mark : Mark) {r : Bool} → among kinds mark ≡ true → r ≡ stands mode c n mark p → r ≡ sought mode c n kinds p mark
+  unfolding sought
+  sought-on p mark e f = rw e f
+
+  pub sought-off : (p : ℕ) (mark : Mark) → among kinds mark ≡ false → sought mode c n kinds p mark ≡ false
+  unfolding sought
+  sought-off p mark e = rw e
+
+  -- The whole search, from what it comes to at the place p.
+  pub settled-none : (from to p : ℕ) → find (some mode c n kinds) (to - from) from ≡ find (some mode c n kinds) (to - p) p
+      → find (some mode c n kinds) (to - p) p ≡ nowhere → Nothing ≡ firstMark mode c n kinds from to
+  unfolding firstMark
+  settled-none from to p e f = sym (ap (named mode c n kinds) (e ∙ f))
+
+  pub settled-found : (from to p q : ℕ) (mark : Mark) (r : Found) → find (some mode c n kinds) (to - from) from ≡ find (some mode c n kinds) (to - p) p
+      → p < to → r ≡ standing mode c n kinds p → r ≡ At q mark → r ≡ firstMark mode c n kinds from to
+  unfolding firstMark
+  settled-found from to p q mark r e h f g =
+      f ∙ sym (ap (named mode c n kinds) (e ∙ find-hit (some mode c n kinds) p to h (some-found p q mark (sym f ∙ g))))

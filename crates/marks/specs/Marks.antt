@@ -1,0 +1,57 @@
+-- The marks: fixed strings of image bytes, compared at any cell. Three 44 89 and the mark byte are one mark; 44 89 by itself is none.
+-- As in cells, c i is cell i of an image, and n the number of its cells.
+use mathlib.Core.Bool.{Bool, true, _&&_}
+use mathlib.Core.List.{List, [], _∷_}
+use Prim.Native.Nat.{ℕ, _+_, _*_}
+use lib.Dec.{eqb, leb}
+use lib.ListN.{length}
+use Rattle.cells.specs.Cells.{octet}
+use Rattle.cells.specs.declared.Mode.{Mode}
+use Rattle.cells.specs.declared.Mode.the-variants.{Fm, Mfm}
+use Rattle.edc.specs.Register.{edcOf}
+use Rattle.marks.specs.declared.Mark.{Mark}
+use Rattle.marks.specs.declared.Mark.the-variants.{Index, Identifier, Data, Control, Open}
+
+-- The image bytes of each mark (01, "The image and the four layouts"; the missing clocks of 004, 4.12).
+abbrev pub string : Mode → Mark → List ℕ
+string Fm Index = 0xF7 ∷ 0x7A ∷ []
+string Fm Identifier = 0xF5 ∷ 0x7E ∷ []
+string Fm Data = 0xF5 ∷ 0x6F ∷ []
+string Fm Control = 0xF5 ∷ 0x6A ∷ []
+string Fm Open = 0xF5 ∷ 0x6B ∷ []
+string Mfm Index = 0x52 ∷ 0x24 ∷ 0x52 ∷ 0x24 ∷ 0x52 ∷ 0x24 ∷ 0x55 ∷ 0x52 ∷ []
+string Mfm Identifier = 0x44 ∷ 0x89 ∷ 0x44 ∷ 0x89 ∷ 0x44 ∷ 0x89 ∷ 0x55 ∷ 0x54 ∷ []
+string Mfm Data = 0x44 ∷ 0x89 ∷ 0x44 ∷ 0x89 ∷ 0x44 ∷ 0x89 ∷ 0x55 ∷ 0x45 ∷ []
+string Mfm Control = 0x44 ∷ 0x89 ∷ 0x44 ∷ 0x89 ∷ 0x44 ∷ 0x89 ∷ 0x55 ∷ 0x4A ∷ []
+string Mfm Open = 0x44 ∷ 0x89 ∷ 0x44 ∷ 0x89 ∷ 0x44 ∷ 0x89 ∷ 0x55 ∷ 0x49 ∷ []
+
+-- The data bytes of a mark: what of it the EDC covers, in FM its one byte, in MFM A1 A1 A1 and the mark byte (01, "Order on the track";
+-- 004, 5.2.2.4 and 6.2.2.4). No EDC covers the index mark, whose three bytes are C2.
+abbrev pub covered : Mode → Mark → List ℕ
+covered Fm Index = 0xFC ∷ []
+covered Fm Identifier = 0xFE ∷ []
+covered Fm Data = 0xFB ∷ []
+covered Fm Control = 0xF8 ∷ []
+covered Fm Open = 0xF9 ∷ []
+covered Mfm Index = 0xC2 ∷ 0xC2 ∷ 0xC2 ∷ 0xFC ∷ []
+covered Mfm Identifier = 0xA1 ∷ 0xA1 ∷ 0xA1 ∷ 0xFE ∷ []
+covered Mfm Data = 0xA1 ∷ 0xA1 ∷ 0xA1 ∷ 0xFB ∷ []
+covered Mfm Control = 0xA1 ∷ 0xA1 ∷ 0xA1 ∷ 0xF8 ∷ []
+covered Mfm Open = 0xA1 ∷ 0xA1 ∷ 0xA1 ∷ 0xF9 ∷ []
+
+-- The register of the EDC once the mark has entered it.
+unfoldable pub registerAfter : Mode → Mark → ℕ
+registerAfter mode mark = edcOf (covered mode mark)
+
+-- The cells from p on spell these bytes.
+unfoldable pub spells : (ℕ → ℕ) → ℕ → List ℕ → Bool
+spells c p [] = true
+spells c p (b ∷ bs) = eqb (octet c p) b && spells c (p + 8) bs
+
+-- These bytes stand at cell p: they lie within the n cells, and the cells from p on spell them.
+unfoldable pub lies : (ℕ → ℕ) → ℕ → List ℕ → ℕ → Bool
+lies c n bs p = leb (p + 8 * length bs) n && spells c p bs
+
+-- The mark stands at cell p (01, "How a track is read").
+unfoldable pub stands : Mode → (ℕ → ℕ) → ℕ → Mark → ℕ → Bool
+stands mode c n mark p = lies c n (string mode mark) p

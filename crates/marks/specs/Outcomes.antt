@@ -1,0 +1,29 @@
+-- What each public function of this crate promises.
+use mathlib.Core.Bool.{Bool}
+use mathlib.Core.List.{List}
+use mathlib.Core.Path.{_≡_}
+use Prim.Native.Nat.{ℕ, _*_, _≤_}
+use lib.ListN.{length}
+use Rattle.cells.specs.Cells.{cell}
+use Rattle.cells.specs.declared.Mode.{Mode}
+use Rattle.marks.specs.Marks.{stands, registerAfter}
+use Rattle.marks.specs.Search.{firstMark}
+use Rattle.marks.specs.declared.Mark.{Mark}
+use Rattle.marks.specs.declared.Kinds.{Kinds}
+use Rattle.marks.specs.declared.Found.{Found}
+
+-- The house bound: an image of at most 2^28 bytes, so that the number of its cells is far from wrapping.
+abbrev pub Housed : List ℕ → Type 0
+Housed image = length image ≤ 268435456
+
+-- `stands` answers whether the mark stands at a place of the image.
+abbrev pub TellsStanding : Mode → Mark → List ℕ → ℕ → Bool → Type 0
+TellsStanding mode mark image place answer = answer ≡ stands mode (cell image) (8 * length image) mark place
+
+-- `register_after` answers the register of the EDC once the mark has entered it.
+abbrev pub IsRegisterAfter : Mode → Mark → ℕ → Type 0
+IsRegisterAfter mode mark answer = answer ≡ registerAfter mode mark
+
+-- `find` answers the first mark of the kinds from one cell of the image up to another, with its place, or that there is none.
+abbrev pub IsFirstMark : Mode → Kinds → List ℕ → ℕ → ℕ → Found → Type 0
+IsFirstMark mode kinds image from to answer = answer ≡ firstMark mode (cell image) (8 * length image) kinds from to

@@ -1,0 +1,75 @@
+-- The search for the first mark of given kinds. There is one notion of searching, `find`: the first of a number of places at which a
+-- test holds. The index mark is never looked for.
+use mathlib.Core.Bool.{Bool, true, false, _&&_}
+use mathlib.Core.Path.{_≡_}
+use Prim.Native.Nat.{ℕ, zero, suc, _+_, _-_, _*_, _/_, _%_, _^_, _<_}
+use Rattle.cells.specs.Cells.{octet}
+use Rattle.cells.specs.declared.Mode.{Mode}
+use Rattle.marks.specs.Marks.{stands}
+use Rattle.marks.specs.declared.Mark.{Mark}
+use Rattle.marks.specs.declared.Mark.the-variants.{Index, Identifier, Data, Control, Open}
+use Rattle.marks.specs.declared.Kinds.{Kinds}
+use Rattle.marks.specs.declared.Found.{Found}
+use Rattle.marks.specs.declared.Found.the-variants.{At, Nothing}
+
+-- Where a search ends.
+pub data Place : Type 0 where
+  nowhere : Place
+  at : ℕ → Place
+
+-- The first of the k places from p on at which the test holds.
+unfoldable pub find : (ℕ → Bool) → ℕ → ℕ → Place
+find test zero p = nowhere
+find test (suc k) p = elim (test p) [ true ↦ at p | false ↦ find test k (suc p) ]
+
+-- The mark is of the kinds looked for: identifier marks, or the marks of a block, which are data, control and open
+-- (01, "How a track is read", steps 1 and 3, and refusal 13).
+abbrev pub among : Kinds → Mark → Bool
+among kinds Index = false
+among kinds Identifier = kinds .identifier
+among kinds Data = kinds .block
+among kinds Control = kinds .block
+among kinds Open = kinds .block
+
+-- The first answer if the test holds, else the other.
+abbrev pub choose : Bool → Found → Found → Found
+choose true answer other = answer
+choose false answer other = other
+
+-- A search has found a mark.
+abbrev pub isFound : Found → Bool
+isFound (At p mark) = true
+isFound Nothing = false
+
+module _ (mode : Mode) (c : ℕ → ℕ) (n : ℕ) (kinds : Kinds) where
+  -- A mark of the kinds stands at p.
+  unfoldable pub sought : ℕ → Mark → Bool
+  sought p mark = among kinds mark && stands mode c n mark p
+
+  -- Which mark of the kinds stands at p, if one does; no two can (the law `one-mark`).
+  unfoldable pub standing : ℕ → Found
+  standing p =
+      choose (sought p Identifier) (At p Identifier)
+      (choose (sought p Data) (At p Data)
+      (choose (sought p Control) (At p Control)
+      (choose (sought p Open) (At p Open) Nothing)))
+
+  -- Some mark of the kinds stands at p.
+  unfoldable pub some : ℕ → Bool
+  some p = isFound (standing p)
+
+  -- What stands where a search ended.
+  abbrev pub named : Place → Found
+  named nowhere = Nothing
+  named (at p) = standing p
+
+  -- The first mark of the kinds that begins at a cell from `from` up to and without `to`, and its place.
+  unfoldable pub firstMark : ℕ → ℕ → Found
+  firstMark from to = named (find some (to - from) from)
+
+-- What the search knows of a place from the image byte behind the place's own: where bit 7 - p % 8 of r is 0, no mark that can be looked
+-- for stands at p. (An aid of the search; no promise rests on it.)
+abbrev pub Rules : Mode → ℕ → ℕ → Type 0
+Rules mode byte r =
+    (c : ℕ → ℕ) → ((i : ℕ) → c i < 2) → (n p : ℕ) (kinds : Kinds) → octet c (8 * (p / 8 + 1)) ≡ byte → r / 2 ^ (7 - p % 8) % 2 ≡ 0
+    → standing mode c n kinds p ≡ Nothing

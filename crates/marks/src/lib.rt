@@ -1,0 +1,245 @@
+// The marks of a track: fixed strings of image bytes, compared at any cell, and the search for the first of given kinds.
+use cells::Mode;
+ghost use mathlib.Core.Path.{_≡_};
+ghost use mathlib.Core.Bool.{false};
+ghost use Prim.Native.Nat.{_+_, _-_, _*_, _≤_, _<_, _/_, _%_};
+ghost use lib.ListN.{length};
+ghost use Rattle.cells.specs.Cells.{cell};
+ghost use Rattle.marks.specs.Marks.{spells, lies, stands};
+ghost use Rattle.marks.specs.Search.{among, sought, standing, Rules};
+ghost use Rattle.marks.specs.Outcomes.{Housed, TellsStanding, IsRegisterAfter, IsFirstMark};
+
+// The marks: FC, FE, FB, F8, and the house mark F9 of a rewrite under way.
+pub enum Mark {
+    Index,
+    Identifier,
+    Data,
+    Control,
+    Open,
+}
+
+// The kinds of mark that a search looks for: identifier marks, and the marks of a block, which are data, control and open.
+pub struct Kinds {
+    pub identifier: bool,
+    pub block: bool,
+}
+
+// What a search finds: the first such mark, with the cell at which it begins.
+pub enum Found {
+    At(usize, Mark),
+    Nothing,
+}
+
+// The image bytes of each mark, which are compared at a place and written by the formatter.
+pub const INDEX_FM: [u8; 2] = *b"\xF7\x7A";
+
+pub const IDENTIFIER_FM: [u8; 2] = *b"\xF5\x7E";
+
+pub const DATA_FM: [u8; 2] = *b"\xF5\x6F";
+
+pub const CONTROL_FM: [u8; 2] = *b"\xF5\x6A";
+
+pub const OPEN_FM: [u8; 2] = *b"\xF5\x6B";
+
+pub const INDEX_MFM: [u8; 8] = *b"\x52\x24\x52\x24\x52\x24\x55\x52";
+
+pub const IDENTIFIER_MFM: [u8; 8] = *b"\x44\x89\x44\x89\x44\x89\x55\x54";
+
+pub const DATA_MFM: [u8; 8] = *b"\x44\x89\x44\x89\x44\x89\x55\x45";
+
+pub const CONTROL_MFM: [u8; 8] = *b"\x44\x89\x44\x89\x44\x89\x55\x4A";
+
+pub const OPEN_MFM: [u8; 8] = *b"\x44\x89\x44\x89\x44\x89\x55\x49";
+
+// Whether the cells from `place` on spell the bytes.
+fn spelled(image: &[u8], place: usize, bytes: &[u8]) -> bool
+    requires { ⌜ place + 8 * length (now bytes) ≤ 4294967296 ⌝ }
+    ensures { λ r. ⌜ r ≡ spells (cell (now (image .entry))) place (now (bytes .entry)) ⌝ }
+{
+    let mut i = 0;
+    while i < bytes.len() {
+        if cells::octet(image, place + 8 * i) != bytes[i] {
+            return false;
+        }
+        i += 1;
+    }
+    true
+}
+
+// Whether the bytes stand at `place`, within the image.
+fn lying(image: &[u8], place: usize, bytes: &[u8]) -> bool
+    requires { ⌜ Housed (now image) × (length (now bytes) ≤ 8) ⌝ }
+    ensures { λ r. ⌜ r ≡ lies (cell (now (image .entry))) (8 * length (now (image .entry))) (now (bytes .entry)) place ⌝ }
+{
+    let cells = 8 * image.len();
+    let width = 8 * bytes.len();
+    if place <= cells {
+        if width <= cells - place {
+            return spelled(image, place, bytes);
+        }
+    }
+    false
+}
+
+// Whether the mark stands at `place`.
+pub fn stands(mode: Mode, mark: Mark, image: &[u8], place: usize) -> bool
+    requires { ⌜ Housed (now image) ⌝ }
+    ensures { λ r. ⌜ TellsStanding mode mark (now (image .entry)) place r ⌝ }
+{
+    match mode {
+        Mode::Fm => match mark {
+            Mark::Index => lying(image, place, &INDEX_FM),
+            Mark::Identifier => lying(image, place, &IDENTIFIER_FM),
+            Mark::Data => lying(image, place, &DATA_FM),
+            Mark::Control => lying(image, place, &CONTROL_FM),
+            Mark::Open => lying(image, place, &OPEN_FM),
+        },
+        Mode::Mfm => match mark {
+            Mark::Index => lying(image, place, &INDEX_MFM),
+            Mark::Identifier => lying(image, place, &IDENTIFIER_MFM),
+            Mark::Data => lying(image, place, &DATA_MFM),
+            Mark::Control => lying(image, place, &CONTROL_MFM),
+            Mark::Open => lying(image, place, &OPEN_MFM),
+        },
+    }
+}
+
+// The register of the EDC once the mark has entered it: what each EDC of a field begins with.
+pub fn register_after(mode: Mode, mark: Mark) -> u16
+    ensures { λ r. ⌜ IsRegisterAfter mode mark r ⌝ }
+{
+    match mode {
+        Mode::Fm => match mark {
+            Mark::Index => edc::edc(b"\xFC"),
+            Mark::Identifier => edc::edc(b"\xFE"),
+            Mark::Data => edc::edc(b"\xFB"),
+            Mark::Control => edc::edc(b"\xF8"),
+            Mark::Open => edc::edc(b"\xF9"),
+        },
+        Mode::Mfm => match mark {
+            Mark::Index => edc::edc(b"\xC2\xC2\xC2\xFC"),
+            Mark::Identifier => edc::edc(b"\xA1\xA1\xA1\xFE"),
+            Mark::Data => edc::edc(b"\xA1\xA1\xA1\xFB"),
+            Mark::Control => edc::edc(b"\xA1\xA1\xA1\xF8"),
+            Mark::Open => edc::edc(b"\xA1\xA1\xA1\xF9"),
+        },
+    }
+}
+
+// For each image byte, in which cells of the byte before it a mark that has this byte inside may begin: the first cell is the highest
+// bit. Every mark but the index mark is counted, which is not looked for.
+const BEGINS_FM: [u8; 256] = *b"\x00\x00\x00\x00\x00\x00\x00\x00\x00\x00\x00\x00\x00\x00\x00\x00\
+    \x00\x00\x00\x00\x00\x00\x00\x00\x00\x00\x00\x00\x00\x00\x00\x00\
+    \x00\x00\x00\x00\x00\x00\x00\x00\x00\x00\x00\x00\x00\x00\x00\x00\
+    \x00\x00\x00\x00\x00\x00\x00\x00\x00\x00\x00\x00\x00\x00\x00\x00\
+    \x00\x00\x00\x00\x00\x00\x00\x00\x00\x00\x00\x00\x00\x00\x00\x00\
+    \x00\x00\x00\x00\x00\x00\x08\x08\x00\x00\x20\x20\x00\x00\x00\x20\
+    \x00\x00\x00\x00\x00\x00\x00\x00\x00\x00\x80\x80\x00\x00\x00\x80\
+    \x00\x00\x00\x00\x00\x00\x00\x00\x00\x00\x00\x00\x00\x00\x80\x00\
+    \x00\x00\x00\x00\x00\x00\x00\x00\x00\x00\x00\x00\x00\x00\x00\x00\
+    \x00\x00\x00\x00\x00\x00\x00\x00\x00\x00\x00\x00\x00\x00\x00\x00\
+    \x00\x00\x00\x00\x00\x00\x00\x00\x00\x00\x00\x04\x00\x10\x00\x10\
+    \x00\x00\x00\x00\x00\x40\x00\x40\x00\x00\x00\x00\x00\x00\x00\x40\
+    \x00\x00\x00\x00\x00\x00\x00\x00\x00\x00\x00\x00\x00\x00\x00\x00\
+    \x00\x00\x00\x00\x00\x02\x00\x00\x00\x00\x00\x00\x00\x00\x00\x00\
+    \x00\x00\x00\x00\x00\x00\x00\x00\x00\x00\x01\x00\x00\x00\x00\x00\
+    \x00\x00\x00\x00\x00\x00\x00\x00\x00\x00\x00\x00\x00\x00\x00\x00";
+
+const BEGINS_MFM: [u8; 256] = *b"\x00\x00\x00\x00\x00\x00\x00\x00\x00\x00\x00\x00\x00\x00\x00\x00\
+    \x00\x00\x02\x00\x00\x00\x00\x00\x00\x00\x00\x00\x00\x00\x00\x00\
+    \x00\x00\x20\x00\x04\x00\x00\x00\x00\x00\x00\x00\x00\x00\x00\x00\
+    \x00\x00\x00\x00\x00\x00\x00\x00\x00\x00\x00\x00\x00\x00\x00\x00\
+    \x00\x00\x00\x00\x40\x00\x00\x00\x08\x00\x00\x00\x00\x00\x00\x00\
+    \x00\x00\x00\x00\x00\x00\x00\x00\x00\x00\x00\x00\x00\x00\x00\x00\
+    \x00\x00\x00\x00\x00\x00\x00\x00\x00\x00\x00\x00\x00\x00\x00\x00\
+    \x00\x00\x00\x00\x00\x00\x00\x00\x00\x00\x00\x00\x00\x00\x00\x00\
+    \x00\x00\x00\x00\x00\x00\x00\x00\x00\x81\x00\x00\x00\x00\x00\x00\
+    \x00\x10\x00\x00\x00\x00\x00\x00\x00\x00\x00\x00\x00\x00\x00\x00\
+    \x00\x00\x00\x00\x00\x00\x00\x00\x00\x00\x00\x00\x00\x00\x00\x00\
+    \x00\x00\x00\x00\x00\x00\x00\x00\x00\x00\x00\x00\x00\x00\x00\x00\
+    \x00\x00\x00\x00\x00\x00\x00\x00\x00\x00\x00\x00\x00\x00\x00\x00\
+    \x00\x00\x00\x00\x00\x00\x00\x00\x00\x00\x00\x00\x00\x00\x00\x00\
+    \x00\x00\x00\x00\x00\x00\x00\x00\x00\x00\x00\x00\x00\x00\x00\x00\
+    \x00\x00\x00\x00\x00\x00\x00\x00\x00\x00\x00\x00\x00\x00\x00\x00";
+
+// In which cells of the byte before `byte` a mark may begin: where the answer's bit is 0, none does.
+fn beginnings(mode: Mode, byte: u8) -> u8
+    ensures { λ r. ⌜ Rules mode byte r ⌝ }
+{
+    match mode {
+        Mode::Fm => BEGINS_FM[byte as usize],
+        Mode::Mfm => BEGINS_MFM[byte as usize],
+    }
+}
+
+// Whether the mark is of the kinds.
+fn is_among(kinds: Kinds, mark: Mark) -> bool
+    ensures { λ r. ⌜ r ≡ among kinds mark ⌝ }
+{
+    match mark {
+        Mark::Index => false,
+        Mark::Identifier => kinds.identifier,
+        Mark::Data => kinds.block,
+        Mark::Control => kinds.block,
+        Mark::Open => kinds.block,
+    }
+}
+
+// Whether the mark is of the kinds and stands at `place`.
+fn is_sought(mode: Mode, kinds: Kinds, mark: Mark, image: &[u8], place: usize) -> bool
+    requires { ⌜ Housed (now image) ⌝ }
+    ensures { λ r. ⌜ r ≡ sought mode (cell (now (image .entry))) (8 * length (now (image .entry))) kinds place mark ⌝ }
+{
+    if is_among(kinds, mark) {
+        return stands(mode, mark, image, place);
+    }
+    false
+}
+
+// Which mark of the kinds stands at `place`.
+fn standing(mode: Mode, kinds: Kinds, image: &[u8], place: usize) -> Found
+    requires { ⌜ Housed (now image) ⌝ }
+    ensures { λ r. ⌜ r ≡ standing mode (cell (now (image .entry))) (8 * length (now (image .entry))) kinds place ⌝ }
+{
+    if is_sought(mode, kinds, Mark::Identifier, image, place) {
+        return Found::At(place, Mark::Identifier);
+    }
+    if is_sought(mode, kinds, Mark::Data, image, place) {
+        return Found::At(place, Mark::Data);
+    }
+    if is_sought(mode, kinds, Mark::Control, image, place) {
+        return Found::At(place, Mark::Control);
+    }
+    if is_sought(mode, kinds, Mark::Open, image, place) {
+        return Found::At(place, Mark::Open);
+    }
+    Found::Nothing
+}
+
+// The first mark of the kinds that begins at a cell from `from` up to and without `to`. One look at the byte behind a cell's own rules
+// out eight places at once.
+pub fn find(mode: Mode, kinds: Kinds, image: &[u8], from: usize, to: usize) -> Found
+    requires { ⌜ Housed (now image) ⌝ }
+    ensures { λ r. ⌜ IsFirstMark mode kinds (now (image .entry)) from to r ⌝ }
+{
+    let mut place = from;
+    while place < to {
+        let next = place / 8 + 1;
+        if image.len() <= next {
+            return Found::Nothing;
+        }
+        let begins = beginnings(mode, image[next]);
+        if begins == 0 {
+            place = 8 * next;
+            continue;
+        }
+        if (begins >> (7 - place % 8)) % 2 == 1 {
+            let found = standing(mode, kinds, image, place);
+            if let Found::At(_, _) = found {
+                return found;
+            }
+        }
+        place += 1;
+    }
+    Found::Nothing
+}
