@@ -25,19 +25,27 @@ string Mfm Data = 0x44 ∷ 0x89 ∷ 0x44 ∷ 0x89 ∷ 0x44 ∷ 0x89 ∷ 0x55 ∷
 string Mfm Control = 0x44 ∷ 0x89 ∷ 0x44 ∷ 0x89 ∷ 0x44 ∷ 0x89 ∷ 0x55 ∷ 0x4A ∷ []
 string Mfm Open = 0x44 ∷ 0x89 ∷ 0x44 ∷ 0x89 ∷ 0x44 ∷ 0x89 ∷ 0x55 ∷ 0x49 ∷ []
 
+-- The byte of each mark (004, 4.12); F9 is the house mark of a rewrite under way.
+abbrev pub markByte : Mark → ℕ
+markByte Index = 0xFC
+markByte Identifier = 0xFE
+markByte Data = 0xFB
+markByte Control = 0xF8
+markByte Open = 0xF9
+
+-- The byte that stands three times before it in MFM (004, 6.1 and 6.2.1).
+abbrev pub syncByte : Mark → ℕ
+syncByte Index = 0xC2
+syncByte Identifier = 0xA1
+syncByte Data = 0xA1
+syncByte Control = 0xA1
+syncByte Open = 0xA1
+
 -- The data bytes of a mark: what of it the EDC covers, in FM its one byte, in MFM A1 A1 A1 and the mark byte (01, "Order on the track";
--- 004, 5.2.2.4 and 6.2.2.4). No EDC covers the index mark, whose three bytes are C2.
+-- 004, 5.2.2.4 and 6.2.2.4). No EDC covers the index mark.
 abbrev pub covered : Mode → Mark → List ℕ
-covered Fm Index = 0xFC ∷ []
-covered Fm Identifier = 0xFE ∷ []
-covered Fm Data = 0xFB ∷ []
-covered Fm Control = 0xF8 ∷ []
-covered Fm Open = 0xF9 ∷ []
-covered Mfm Index = 0xC2 ∷ 0xC2 ∷ 0xC2 ∷ 0xFC ∷ []
-covered Mfm Identifier = 0xA1 ∷ 0xA1 ∷ 0xA1 ∷ 0xFE ∷ []
-covered Mfm Data = 0xA1 ∷ 0xA1 ∷ 0xA1 ∷ 0xFB ∷ []
-covered Mfm Control = 0xA1 ∷ 0xA1 ∷ 0xA1 ∷ 0xF8 ∷ []
-covered Mfm Open = 0xA1 ∷ 0xA1 ∷ 0xA1 ∷ 0xF9 ∷ []
+covered Fm mark = markByte mark ∷ []
+covered Mfm mark = syncByte mark ∷ syncByte mark ∷ syncByte mark ∷ markByte mark ∷ []
 
 -- The register of the EDC once the mark has entered it.
 unfoldable pub registerAfter : Mode → Mark → ℕ

@@ -1,0 +1,107 @@
+-- The refused calls of 01. A call's tests are a list in the papers' order, and the first that applies gives the refusal.
+-- Here stand the tests that several calls share, each with the number that the table "Refused calls" gives it.
+use mathlib.Core.Bool.{Bool, cond, not, _&&_, _||_}
+use mathlib.Core.List.{List, [], _∷_, _++_}
+use Prim.Native.Nat.{ℕ}
+use lib.Dec.{ltb, eqb}
+use Rattle.layouts.specs.declared.Layout.{Layout}
+use Rattle.layouts.specs.declared.Refusal.{Refusal}
+use Rattle.layouts.specs.declared.Refusal.the-variants.{ImageLength, CylinderNumber, SideNumber, LayoutNumber, AreaLength, MarkBytes, ControlRecord, Overfull, SectorNumber, Unreadable, OffBoundary, Finished, NoBlock}
+use Rattle.layouts.specs.declared.Checked.{Checked}
+use Rattle.layouts.specs.declared.Checked.the-variants.{Passed, Refused}
+use Rattle.layouts.specs.declared.Chosen.{Chosen}
+use Rattle.layouts.specs.declared.Chosen.the-variants as chosen
+use Rattle.layouts.specs.Layouts.{highest}
+use Rattle.layouts.specs.Tracks.{highestCylinder, highestSide, allowed}
+
+-- The number of a refusal (01, "Refused calls").
+abbrev pub refusalNumber : Refusal → ℕ
+refusalNumber ImageLength = 1
+refusalNumber CylinderNumber = 2
+refusalNumber SideNumber = 3
+refusalNumber LayoutNumber = 4
+refusalNumber AreaLength = 5
+refusalNumber MarkBytes = 6
+refusalNumber ControlRecord = 7
+refusalNumber Overfull = 8
+refusalNumber SectorNumber = 9
+refusalNumber Unreadable = 10
+refusalNumber OffBoundary = 11
+refusalNumber Finished = 12
+refusalNumber NoBlock = 13
+
+-- A test of a call: whether it applies, and the refusal that it gives.
+pub record Test : Type 0 where
+  pub applies : Bool
+  pub gives : Refusal
+
+-- The first test that applies gives the refusal (01, "Refused calls": order).
+unfoldable pub refusal : List Test → Checked
+refusal [] = Passed
+refusal (t ∷ ts) = cond (t .applies) (Refused (t .gives)) (refusal ts)
+
+-- The layout, unless the call is refused.
+abbrev pub taken : Layout → Checked → Chosen
+taken l Passed = chosen.Taken l
+taken l (Refused f) = chosen.Refused f
+
+-- The most bytes of an image that is read or rewritten (01, "Refused calls", 1).
+abbrev pub longestImage : ℕ
+longestImage = 24576
+
+-- The byte of a data mark (004, 7.4.2.4.1).
+abbrev pub dataMark : ℕ
+dataMark = 0xFB
+
+-- The byte of a control mark (004, 7.4.2.4.1).
+abbrev pub controlMark : ℕ
+controlMark = 0xF8
+
+-- CAPITAL LETTER D, the one first byte that a control record has on cylinder 0 (004, 7.4.2.4.3).
+abbrev pub letterD : ℕ
+letterD = 0x44
+
+-- 1, in reading and rewriting: the image is empty or longer than the longest.
+abbrev pub imageTest : ℕ → Test
+imageTest length = record { applies = eqb length 0 || ltb longestImage length; gives = ImageLength }
+
+-- 2: the cylinder is above the highest.
+abbrev pub cylinderTest : ℕ → Test
+cylinderTest cylinder = record { applies = ltb highestCylinder cylinder; gives = CylinderNumber }
+
+-- 3: the side is above the highest.
+abbrev pub sideTest : ℕ → Test
+sideTest side = record { applies = ltb highestSide side; gives = SideNumber }
+
+-- 4: the layout is not allowed on this track; above the highest it is on none.
+abbrev pub trackTest : (layout cylinder side : ℕ) → Test
+trackTest layout cylinder side = record { applies = not (allowed layout cylinder side); gives = LayoutNumber }
+
+-- 4, where no track is named: the layout is above the highest.
+abbrev pub numberTest : ℕ → Test
+numberTest layout = record { applies = ltb highest layout; gives = LayoutNumber }
+
+-- 5: the data area has another length than is wanted.
+abbrev pub areaTest : (wanted given : ℕ) → Test
+areaTest wanted given = record { applies = not (eqb given wanted); gives = AreaLength }
+
+-- 6, of one mark: it is neither FB nor F8.
+abbrev pub markTest : ℕ → Test
+markTest mark = record { applies = not (eqb mark dataMark) && not (eqb mark controlMark); gives = MarkBytes }
+
+-- 7: cylinder 0, mark F8, and the first data byte is not D.
+abbrev pub controlTest : (cylinder mark first : ℕ) → Test
+controlTest cylinder mark first =
+    record { applies = eqb cylinder 0 && eqb mark controlMark && not (eqb first letterD); gives = ControlRecord }
+
+-- 9: the sector number is 0 or above the count.
+abbrev pub sectorTest : (sectors sector : ℕ) → Test
+sectorTest sectors sector = record { applies = eqb sector 0 || ltb sectors sector; gives = SectorNumber }
+
+-- 2, 3, 4: how format, read and the rewrite request begin.
+unfoldable pub trackTests : (layout cylinder side : ℕ) → List Test
+trackTests layout cylinder side = cylinderTest cylinder ∷ sideTest side ∷ trackTest layout cylinder side ∷ []
+
+-- 2, 3, 4, 1: how read and the rewrite request begin.
+unfoldable pub readingTests : (layout cylinder side length : ℕ) → List Test
+readingTests layout cylinder side length = trackTests layout cylinder side ++ (imageTest length ∷ [])

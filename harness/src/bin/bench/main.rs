@@ -1,0 +1,73 @@
+//! Prints for each exported function the ratio Rattle / Rust: of executed instructions and, on an x86-64 processor, of
+//! time too (under an emulator a time says nothing). `bench --steps`: instructions only.
+mod measure;
+
+use harness::reference;
+use harness::reference::coding::{code, Mode};
+use harness::rng::Rng;
+use harness::station;
+use measure::{hidden, Case};
+use std::process::Command;
+
+fn main() {
+    let machine = said_by("uname", &["-m"]);
+    let native = machine == "x86_64";
+    let processor = if native { model() } else { format!("{machine}, emulating x86-64") };
+    println!("{}; {}; {processor}", env!("HARNESS_COMPILER"), said_by("rt", &["version"]));
+
+    let with_time = native && !std::env::args().any(|word| word == "--steps");
+    edc(with_time);
+    coding(with_time);
+    data_byte(with_time);
+}
+
+/// The first line that a program writes. Also under an emulator the program is the machine's own.
+fn said_by(program: &str, words: &[&str]) -> String {
+    let output = Command::new(program).args(words).output().map(|output| output.stdout).unwrap_or_default();
+    String::from_utf8_lossy(&output).lines().next().unwrap_or("unknown").to_string()
+}
+
+/// The processor's name.
+fn model() -> String {
+    let processors = std::fs::read_to_string("/proc/cpuinfo").unwrap_or_default();
+    let name = processors.lines().find_map(|line| line.strip_prefix("model name")?.split(": ").nth(1));
+    name.unwrap_or("unknown").to_string()
+}
+
+fn edc(with_time: bool) {
+    let bytes = Rng::new(1).bytes(1026);
+    let drive = |f: fn(&[u8]) -> u16| {
+        hidden(f(&bytes));
+    };
+    let (rattle, rust) = (station::edc, reference::edc::edc);
+    Case { name: "edc, 1026 bytes", drive: &drive, rattle, rust, idle: |_| 0 }.report(with_time);
+}
+
+fn coding(with_time: bool) {
+    type Code = fn(u8, u8) -> u16;
+    let bytes = Rng::new(2).bytes(256);
+    let drive = |f: Code| {
+        let mut before = 0;
+        for &byte in &bytes {
+            hidden(f(before, byte));
+            before = byte & 1;
+        }
+    };
+    let report = |name, rattle: Code, rust: Code| {
+        Case { name, drive: &drive, rattle, rust, idle: |_, _| 0 }.report(with_time);
+    };
+    report("code_fm, 256 bytes", station::code_fm, |before, byte| code(Mode::Fm, before != 0, byte));
+    report("code_mfm, 256 bytes", station::code_mfm, |before, byte| code(Mode::Mfm, before != 0, byte));
+}
+
+fn data_byte(with_time: bool) {
+    let image = Rng::new(3).bytes(2 * 1024 + 1);
+    let drive = |f: fn(&[u8], usize) -> u8| {
+        for byte in 0..1024 {
+            // five cells on, as a track need not begin with a byte
+            hidden(f(&image, 16 * byte + 5));
+        }
+    };
+    let (rattle, rust) = (station::data_byte, reference::coding::data_byte);
+    Case { name: "data_byte, 1024 bytes", drive: &drive, rattle, rust, idle: |_, _| 0 }.report(with_time);
+}

@@ -1,0 +1,35 @@
+//! Safe wrappers of the functions that the Rattle crate `station` exports.
+
+/// A slice is two arguments, its pointer and its number of elements.
+mod exported {
+    extern "C" {
+        pub fn station_edc(bytes: *const u8, len: usize) -> u16;
+        pub fn station_code_fm(before: u8, byte: u8) -> u16;
+        pub fn station_code_mfm(before: u8, byte: u8) -> u16;
+        pub fn station_data_byte(image: *const u8, len: usize, cell: usize) -> u8;
+    }
+}
+
+/// The EDC of the bytes, the register all ones at the start.
+pub fn edc(bytes: &[u8]) -> u16 {
+    // SAFETY: pointer and length are those of one live slice, which is only read.
+    unsafe { exported::station_edc(bytes.as_ptr(), bytes.len()) }
+}
+
+/// The two image bytes of `byte` in FM after the bit `before` (0 is ZERO, all else ONE), the first in the high half.
+pub fn code_fm(before: u8, byte: u8) -> u16 {
+    // SAFETY: plain numbers, and the function takes every one of them.
+    unsafe { exported::station_code_fm(before, byte) }
+}
+
+/// The same in MFM.
+pub fn code_mfm(before: u8, byte: u8) -> u16 {
+    // SAFETY: plain numbers, and the function takes every one of them.
+    unsafe { exported::station_code_mfm(before, byte) }
+}
+
+/// The data byte that the sixteen cells from `cell` hold; cells past the end of the image are 0.
+pub fn data_byte(image: &[u8], cell: usize) -> u8 {
+    // SAFETY: pointer and length are those of one live slice, which is only read; every cell number is taken.
+    unsafe { exported::station_data_byte(image.as_ptr(), image.len(), cell) }
+}

@@ -1,0 +1,115 @@
+//! The EDC: `station_edc` against the reference, against the papers' values, and against Python's `crc_hqx`.
+use harness::reference;
+use harness::rng::Rng;
+use harness::station;
+use std::io::{self, Write};
+use std::process::{Command, Stdio};
+
+/// Holds the two sides against each other on one input.
+fn compare(bytes: &[u8]) {
+    let (found, expected) = (station::edc(bytes), reference::edc::edc(bytes));
+    assert_eq!(found, expected, "EDC of {bytes:02X?}: {found:04X}, not {expected:04X}");
+}
+
+#[test]
+fn every_short_length() {
+    let mut inputs = 0;
+    for length in 0..=64 {
+        compare(&vec![0x00; length]);
+        compare(&vec![0xFF; length]);
+        for bit in 0..8 * length {
+            let mut bytes = vec![0; length];
+            bytes[bit / 8] = 0x80 >> (bit % 8);
+            compare(&bytes);
+        }
+        inputs += 2 + 8 * length;
+    }
+    println!("EDC, lengths 0 to 64, all 00, all FF and each single bit: {inputs} inputs compared");
+}
+
+#[test]
+fn random_parts() {
+    const INPUTS: usize = 20_000;
+    let mut rng = Rng::new(1);
+    for _ in 0..INPUTS {
+        // up to the longest block: four bytes of the mark, 1,024 of data, two of the EDC
+        let length = rng.below(1031);
+        let bytes = rng.bytes(length);
+        // a part may begin at any alignment
+        let from = rng.below(length + 1);
+        compare(&bytes[from..]);
+    }
+    println!("EDC, random parts at any offset: {INPUTS} inputs compared");
+}
+
+#[test]
+fn its_own_edc_leaves_zero() {
+    const INPUTS: usize = 5_000;
+    let mut rng = Rng::new(2);
+    for _ in 0..INPUTS {
+        let length = rng.below(300);
+        let mut bytes = rng.bytes(length);
+        let edc = station::edc(&bytes);
+        bytes.extend_from_slice(&edc.to_be_bytes());
+        assert_eq!(station::edc(&bytes), 0, "data and EDC {bytes:02X?}");
+    }
+    println!("EDC, data followed by its own EDC leaves zero: {INPUTS} inputs compared");
+}
+
+#[test]
+fn published_check_value() {
+    assert_eq!(station::edc(b"123456789"), 0x29B1);
+    assert_eq!(reference::edc::edc(b"123456789"), 0x29B1);
+    println!("EDC, published check value: 1 input compared");
+}
+
+/// Answers a line of hexadecimal digits with the EDC of its bytes. It reads everything before it writes anything, so
+/// neither side waits for the other.
+const PYTHON: &str = "
+import binascii, sys
+for line in sys.stdin.read().splitlines():
+    print('%04X' % binascii.crc_hqx(bytes.fromhex(line), 0xFFFF))
+";
+
+#[test]
+fn python_agrees() {
+    if !python_runs() {
+        println!("EDC against Python's crc_hqx: NOT RUN, there is no python3 that runs");
+        return;
+    }
+    const INPUTS: usize = 5_000;
+    let mut rng = Rng::new(3);
+    let inputs: Vec<Vec<u8>> = (0..INPUTS)
+        .map(|_| {
+            let length = rng.below(200);
+            rng.bytes(length)
+        })
+        .collect();
+    let answers = ask_python(&inputs).expect("python3 takes the inputs and answers");
+    assert_eq!(answers.lines().count(), INPUTS, "lines that python3 wrote");
+    for (bytes, answer) in inputs.iter().zip(answers.lines()) {
+        assert_eq!(Ok(station::edc(bytes)), u16::from_str_radix(answer, 16), "EDC of {bytes:02X?}: not {answer}");
+    }
+    println!("EDC against Python's crc_hqx: {INPUTS} inputs compared");
+}
+
+fn python_runs() -> bool {
+    let tried = Command::new("python3").args(["-c", "import binascii"]).stderr(Stdio::null()).status();
+    tried.map_or(false, |status| status.success())
+}
+
+/// What `PYTHON` writes, given a line for each input.
+fn ask_python(inputs: &[Vec<u8>]) -> io::Result<String> {
+    let mut lines = String::new();
+    for bytes in inputs {
+        lines.extend(bytes.iter().map(|byte| format!("{byte:02X}")));
+        lines.push('\n');
+    }
+    let mut python =
+        Command::new("python3").args(["-c", PYTHON]).stdin(Stdio::piped()).stdout(Stdio::piped()).spawn()?;
+    if let Some(mut input) = python.stdin.take() {
+        input.write_all(lines.as_bytes())?;
+    }
+    let output = python.wait_with_output()?;
+    String::from_utf8(output.stdout).map_err(|error| io::Error::new(io::ErrorKind::InvalidData, error))
+}
