@@ -1,0 +1,100 @@
+-- The contract of every public function allows one outcome: a theorem for each, by the function's name.
+use mathlib.Core.List.{List}
+use mathlib.Core.Path.{_≡_, sym, _∙_}
+use Prim.Native.Nat.{ℕ}
+use Rattle.cells.specs.Outcomes.{IsOctet, IsDataByte, IsCoded}
+use Rattle.cells.specs.declared.Mode.{Mode}
+use Rattle.edc.specs.Outcomes.{IsByteEntered, IsBytesEntered, IsEdc}
+use Rattle.layouts.specs.Outcomes.{IsLayout, IsGapByte, IsRefusalNumber, IsNumbered, IsOnTrack, IsForReading, IsImageLength, IsAreaLength, IsMarkByte, IsControlRecord, IsSectorNumber}
+use Rattle.layouts.specs.declared.Layout.{Layout}
+use Rattle.layouts.specs.declared.Refusal.{Refusal}
+use Rattle.marks.specs.Outcomes.{TellsStanding, IsRegisterAfter, IsFirstMark}
+use Rattle.marks.specs.declared.Mark.{Mark}
+use Rattle.marks.specs.declared.Kinds.{Kinds}
+use Rattle.station.specs.Outcomes.{GivesEdc, GivesCoded, GivesDataByte}
+use Rattle.promises.specs.Unique.{Unique}
+
+-- A relation that gives the outcome as a value.
+by-value : {A : Type 0} (v : A) → Unique (λ x. x ≡ v)
+by-value v x y p q = p ∙ sym q
+
+-- ---- cells
+
+pub octet : (image : List ℕ) (place : ℕ) → Unique (IsOctet image place)
+octet image place = by-value _
+
+pub data-byte : (image : List ℕ) (place : ℕ) → Unique (IsDataByte image place)
+data-byte image place = by-value _
+
+pub coded : (mode : Mode) (before byte : ℕ) → Unique (IsCoded mode before byte)
+coded mode before byte = by-value _
+
+-- ---- edc
+
+pub byte-entered : (register byte : ℕ) → Unique (IsByteEntered register byte)
+byte-entered register byte = by-value _
+
+pub bytes-entered : (register : ℕ) (bytes : List ℕ) → Unique (IsBytesEntered register bytes)
+bytes-entered register bytes = by-value _
+
+pub edc : (bytes : List ℕ) → Unique (IsEdc bytes)
+edc bytes = by-value _
+
+-- ---- marks
+
+pub stands : (mode : Mode) (mark : Mark) (image : List ℕ) (place : ℕ) → Unique (TellsStanding mode mark image place)
+stands mode mark image place = by-value _
+
+pub register-after : (mode : Mode) (mark : Mark) → Unique (IsRegisterAfter mode mark)
+register-after mode mark = by-value _
+
+pub find : (mode : Mode) (kinds : Kinds) (image : List ℕ) (from to : ℕ) → Unique (IsFirstMark mode kinds image from to)
+find mode kinds image from to = by-value _
+
+-- ---- layouts
+
+-- Layout0::layout to Layout3::layout
+pub layout : (l : Layout) → Unique (IsLayout l)
+layout l = by-value _
+
+pub gap-byte : (mode : Mode) → Unique (IsGapByte mode)
+gap-byte mode = by-value _
+
+pub refusal-number : (refusal : Refusal) → Unique (IsRefusalNumber refusal)
+refusal-number refusal = by-value _
+
+pub numbered : (layout : ℕ) → Unique (IsNumbered layout)
+numbered layout = by-value _
+
+pub on-track : (layout cylinder side : ℕ) → Unique (IsOnTrack layout cylinder side)
+on-track layout cylinder side = by-value _
+
+pub for-reading : (layout cylinder side length : ℕ) → Unique (IsForReading layout cylinder side length)
+for-reading layout cylinder side length = by-value _
+
+pub image-length : (length : ℕ) → Unique (IsImageLength length)
+image-length length = by-value _
+
+pub area-length : (wanted given : ℕ) → Unique (IsAreaLength wanted given)
+area-length wanted given = by-value _
+
+pub mark-byte : (mark : ℕ) → Unique (IsMarkByte mark)
+mark-byte mark = by-value _
+
+pub control-record : (cylinder mark first : ℕ) → Unique (IsControlRecord cylinder mark first)
+control-record cylinder mark first = by-value _
+
+pub sector-number : (sectors sector : ℕ) → Unique (IsSectorNumber sectors sector)
+sector-number sectors sector = by-value _
+
+-- ---- station
+
+pub station-edc : (bytes : List ℕ) → Unique (GivesEdc bytes)
+station-edc bytes = by-value _
+
+-- station_code_fm and station_code_mfm
+pub station-code : (mode : Mode) (before byte : ℕ) → Unique (GivesCoded mode before byte)
+station-code mode before byte = by-value _
+
+pub station-data-byte : (image : List ℕ) (place : ℕ) → Unique (GivesDataByte image place)
+station-data-byte image place = by-value _
