@@ -1,0 +1,178 @@
+-- Stores one behind the other, and how the writers' loops go on: what is left to write from byte i on ends where the whole does.
+use mathlib.Core.Path.{_≡_, refl, sym, ap, _∙_}
+use mathlib.Core.List.{List, [], _∷_, _++_, append-nil, append-assoc}
+use Prim.Native.Nat.{ℕ, zero, suc, _+_, _-_, _*_, _/_, _%_, _<_, _≤_}
+use native.Mathlib.Nat.{add-zero}
+use native.Mathlib.Numerals.{add-one}
+use native.Mathlib.Omega.{arith}
+use borrow.Rule.Slice.PartMut.{putMid}
+use lib.ListN.{length, getD, drop, drop-of-length-le, set}
+use lib.Seq.{sets, sets-eq, drop-cons, drop-drop}
+use Rattle.cells.specs.Coding.{high, low, codedByte}
+use Rattle.cells.specs.declared.Mode.{Mode}
+use Rattle.cells.specs.declared.Mode.the-variants.{Fm, Mfm}
+use Rattle.cells.specs.declared.Pair.{Pair}
+use Rattle.edc.specs.Register.{bytesEntered, edcOf, edcBytes}
+use Rattle.edc.proofs.Laws.{bytes-append, bytes-end}
+use Rattle.layouts.specs.Layouts.{markBytes}
+use Rattle.marks.specs.Marks.{string, covered, registerAfter, markByte}
+use Rattle.marks.specs.declared.Mark.{Mark}
+use Rattle.format.proofs.Symbols.{image-mark, length-run, length-string}
+use Rattle.format.specs.Order.{Symbol, plain, mark as marked, image, run, pairs, bytes, checked}
+
+-- ---- stores
+
+-- Two runs of stores, one behind the other.
+pub sets-append : (l : List ℕ) (i : ℕ) (xs ys : List ℕ) → sets (sets l i xs) (i + length xs) ys ≡ sets l i (xs ++ ys)
+sets-append l i [] ys = rw (add-zero i)
+sets-append l i (x ∷ xs) ys =
+    let e : i + suc (length xs) ≡ suc i + length xs = omega arith in
+    rw e (sets-append (set l i x) (suc i) xs ys)
+
+-- A run that fills the list is the list.
+pub sets-whole : (l vs : List ℕ) → length vs ≡ length l → sets l 0 vs ≡ vs
+sets-whole l vs e =
+    let h : 0 + length vs ≤ length l = omega arith in
+    let d : drop (0 + length vs) l ≡ [] = drop-of-length-le l {i = 0 + length vs} (omega arith) in
+    sets-eq vs l 0 h ∙ rw d (append-nil vs)
+
+-- What was lent as the part from a to e, and filled with vs, comes back as the stores of vs from a on.
+pub part-put : (l ys vs : List ℕ) (a e : ℕ) → ys ≡ vs → a + length vs ≡ e → e ≤ length l → putMid a (e - a) l ys ≡ sets l a vs
+part-put l ys vs a e p q h =
+    let k : a + (e - a) ≡ a + length vs = omega arith in
+    sym (sets-eq vs l a (omega arith) ∙ rw (p, drop-drop (e - a) a l, k, append-assoc))
+
+-- ---- one byte more
+
+-- A coded byte is stored, and the symbols ss are to come.
+plain-stored : (area after : List ℕ) (at i : ℕ) (mode : Mode) (a x : ℕ) (p : Pair) (ss : List Symbol)
+    → after ≡ sets area (at + 2 * i) (p .first ∷ p .second ∷ []) → p ≡ codedByte mode a x
+    → sets area (at + 2 * i) (image mode a (plain x ∷ ss)) ≡ sets after (at + 2 * (i + 1)) (image mode (x % 2) ss)
+unfolding image
+plain-stored area after at i mode a x p ss e f =
+    let g : suc (suc (at + 2 * i)) ≡ at + 2 * (i + 1) = omega arith in
+    rw (e, f, ← g)
+
+-- A turn of a run of pairs.
+pub pairs-turn : (area after : List ℕ) (at i n : ℕ) (p : Pair) → i < n → after ≡ sets area (at + 2 * i) (p .first ∷ p .second ∷ [])
+    → sets area (at + 2 * i) (pairs (n - i) p) ≡ sets after (at + 2 * (i + 1)) (pairs (n - (i + 1)) p)
+unfolding pairs
+pairs-turn area after at i n p h e =
+    let f : n - i ≡ suc (n - (i + 1)) = omega arith in
+    let g : suc (suc (at + 2 * i)) ≡ at + 2 * (i + 1) = omega arith in
+    ap (λ (k : ℕ). sets area (at + 2 * i) (pairs k p)) f ∙ rw (e, ← g)
+
+pub pairs-end : (area : List ℕ) (at i n : ℕ) (p : Pair) → n ≤ i → sets area at (pairs (n - i) p) ≡ area
+unfolding pairs
+pairs-end area at i n p h =
+    let f : n - i ≡ 0 = omega arith in
+    rw f
+
+-- A byte after its own last bit is coded alike each time.
+pub run-pairs : (mode : Mode) (k x : ℕ) → pairs k (codedByte mode (x % 2) x) ≡ image mode (x % 2) (run k x [])
+unfolding pairs run image
+run-pairs mode zero x = refl
+run-pairs mode (suc k) x = ap (λ (l : List ℕ). high mode (x % 2) x ∷ low mode x ∷ l) (run-pairs mode k x)
+
+-- A run is its first byte and pairs.
+pub run-stored : (area one two : List ℕ) (at n : ℕ) (mode : Mode) (a x : ℕ) (p q : Pair) → 0 < n
+    → one ≡ sets area at (p .first ∷ p .second ∷ []) → p ≡ codedByte mode a x
+    → two ≡ sets one (at + 2) (pairs (n - 1) q) → q ≡ codedByte mode (x % 2) x
+    → two ≡ sets area at (image mode a (run n x []))
+unfolding run image
+run-stored area one two at n mode a x p q h e f g k =
+    let u : n ≡ suc (n - 1) = omega arith in
+    let v : suc (suc at) ≡ at + 2 = omega arith in
+    g ∙ rw (k, run-pairs mode (n - 1) x, e, f, ← v) (ap (λ (m : ℕ). sets area at (image mode a (run m x []))) (sym u))
+
+pub run-none : (area : List ℕ) (at n : ℕ) (mode : Mode) (a x : ℕ) → n ≤ 0 → area ≡ sets area at (image mode a (run n x []))
+unfolding run image
+run-none area at zero mode a x h = refl
+run-none area at (suc n) mode a x h = absurd (omega arith)
+
+-- A turn of the loop over bytes; the bytes ys follow them.
+pub bytes-turn : (area after : List ℕ) (at i : ℕ) (mode : Mode) (a : ℕ) (p : Pair) (xs ys : List ℕ) → i < length xs
+    → after ≡ sets area (at + 2 * i) (p .first ∷ p .second ∷ []) → p ≡ codedByte mode a (getD xs i 0)
+    → sets area (at + 2 * i) (image mode a (bytes (drop i xs ++ ys) []))
+    ≡ sets after (at + 2 * (i + 1)) (image mode (getD xs i 0 % 2) (bytes (drop (i + 1) xs ++ ys) []))
+unfolding bytes
+bytes-turn area after at i mode a p xs ys h e f =
+    ap (λ (zs : List ℕ). sets area (at + 2 * i) (image mode a (bytes (zs ++ ys) []))) (drop-cons xs i 0 h)
+    ∙ plain-stored area after at i mode a (getD xs i 0) p (bytes (drop (suc i) xs ++ ys) []) e f
+    ∙ rw (add-one i)
+
+-- The two EDC bytes, behind the last byte.
+pub edc-stored : (area one two : List ℕ) (at i : ℕ) (mode : Mode) (a r : ℕ) (p q : Pair) (xs : List ℕ) → length xs ≤ i
+    → one ≡ sets area (at + 2 * i) (p .first ∷ p .second ∷ []) → p ≡ codedByte mode a (r / 256)
+    → two ≡ sets one (at + 2 * i + 2) (q .first ∷ q .second ∷ []) → q ≡ codedByte mode (r / 256 % 2) (r % 256)
+    → sets area (at + 2 * i) (image mode a (bytes (drop i xs ++ edcBytes r) [])) ≡ two
+unfolding bytes image
+edc-stored area one two at i mode a r p q xs h e f g k =
+    let u : suc (suc (at + 2 * i)) ≡ at + 2 * i + 2 = omega arith in
+    ap (λ (zs : List ℕ). sets area (at + 2 * i) (image mode a (bytes (zs ++ edcBytes r) []))) (drop-of-length-le xs h)
+    ∙ rw (g, k, e, f, ← u)
+
+-- The register of a mark and the bytes after it is the EDC of them all.
+pub register-all : (mode : Mode) (mark : Mark) (xs : List ℕ) → bytesEntered (registerAfter mode mark) xs ≡ edcOf (covered mode mark ++ xs)
+unfolding registerAfter edcOf
+register-all mode mark xs = sym (bytes-append 65535 (covered mode mark) xs)
+
+-- The whole field, from where the loop over its bytes ended: r is the register there.
+module _ (mode : Mode) (mark : Mark) (xs area₀ area : List ℕ) (at i before₀ before register₀ r : ℕ)
+    (eb : before₀ ≡ markByte mark % 2) (er : register₀ ≡ registerAfter mode mark)
+    (entered : bytesEntered register₀ xs ≡ bytesEntered r (drop i xs))
+    (stored : sets area₀ at (image mode before₀ (bytes (xs ++ edcBytes (bytesEntered register₀ xs)) []))
+    ≡ sets area (at + 2 * i) (image mode before (bytes (drop i xs ++ edcBytes (bytesEntered register₀ xs)) [])))
+    (past : length xs ≤ i) where
+  register-done : edcOf (covered mode mark ++ xs) ≡ r
+  register-done = sym (register-all mode mark xs) ∙ rw (← er) (entered ∙ bytes-end r xs i past)
+
+  pub checked-written : (one two : List ℕ) (p q : Pair)
+      → one ≡ sets area (at + 2 * i) (p .first ∷ p .second ∷ []) → p ≡ codedByte mode before (r / 256)
+      → two ≡ sets one (at + 2 * i + 2) (q .first ∷ q .second ∷ []) → q ≡ codedByte mode (r / 256 % 2) (r % 256)
+      → two ≡ sets area₀ at (image mode (markByte mark % 2) (bytes (checked mode mark xs) []))
+  unfolding checked
+  checked-written one two p q e f g k =
+      let all : bytesEntered register₀ xs ≡ r = entered ∙ bytes-end r xs i past in
+      sym (rw (register-done, ← eb) (rw all at stored) ∙ edc-stored area one two at i mode before r p q xs past e f g k)
+
+  pub checked-bit : r % 256 % 2 ≡ edcOf (covered mode mark ++ xs) % 2
+  checked-bit = rw register-done (omega arith)
+
+-- A turn of the copy.
+pub copy-turn : (area bs : List ℕ) (at i : ℕ) → i < length bs
+    → sets area (at + i) (drop i bs) ≡ sets (set area (at + i) (getD bs i 0)) (at + (i + 1)) (drop (i + 1) bs)
+copy-turn area bs at i h =
+    let g : suc (at + i) ≡ at + suc i = omega arith in
+    rw (add-one i, drop-cons bs i 0 h, ← g)
+
+pub copy-end : (area bs : List ℕ) (at i : ℕ) → length bs ≤ i → sets area at (drop i bs) ≡ area
+copy-end area bs at i h = rw (drop-of-length-le bs h)
+
+-- A mark's string, by the mode and the mark that an arm of the code knows.
+pub string-by : (mode : Mode) (mark : Mark) (m : Mode) (k : Mark) (l : List ℕ) (at : ℕ) {r : List ℕ} → mode ≡ m → mark ≡ k → r ≡ sets l at (string m k)
+    → r ≡ sets l at (string mode mark)
+string-by mode mark m k l at e f g = rw (e, f) g
+
+-- Every mark takes a byte or more.
+pub mark-some : (mode : Mode) → 1 ≤ markBytes mode
+mark-some Fm = omega arith
+mark-some Mfm = omega arith
+
+-- ---- fields one behind the other
+
+-- A block: the 00 bytes, the mark, and the bytes with their EDC.
+pub block-stored : (area one two three : List ℕ) (at k width : ℕ) (mode : Mode) (a : ℕ) (m : Mark) (ss : List Symbol)
+    → one ≡ sets area at (image mode a (run k 0 []))
+    → two ≡ sets one (at + 2 * k) (string mode m) → width ≡ 2 * markBytes mode
+    → three ≡ sets two (at + 2 * k + width) (image mode (markByte m % 2) ss)
+    → three ≡ sets area at (image mode a (run k 0 (marked m ∷ ss)))
+block-stored area one two three at k width mode a m ss e f w g =
+    let A = image mode a (run k 0 []) in
+    let B = string mode m in
+    let C = image mode (markByte m % 2) ss in
+    let p : at + 2 * k ≡ at + length A = omega (arith, length-run mode a k 0) in
+    let q : at + 2 * k + width ≡ at + length A + length B = omega (arith, length-run mode a k 0, length-string mode m) in
+    let f′ : two ≡ sets one (at + length A) B = rw (← p) f in
+    let g′ : three ≡ sets two (at + length A + length B) C = rw (← q) g in
+    g′ ∙ rw (f′, e) (sets-append (sets area at A) (at + length A) B C ∙ sets-append area at A (B ++ C) ∙ rw (image-mark mode a k 0 m ss))

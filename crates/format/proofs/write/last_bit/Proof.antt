@@ -1,0 +1,53 @@
+-- `last_bit` meets its contract, mark by mark.
+use mathlib.Core.Path.{ap, sym}
+use Prim.Native.Nat.{_%_}
+use Rattle.marks.specs.Marks.{markByte}
+use Rattle.marks.specs.declared.Mark.{Mark}
+use borrow.Author.Needs.{needs}
+use Rattle.format.proofs.write.last_bit.Statement.{statement}
+use Rattle.format.proofs.write.last_bit.Tie as tie
+
+enum-told : tie.Need-enum-told
+enum-told c = search needs
+
+enum-told-2 : tie.Need-enum-told-2
+enum-told-2 c = search needs
+
+enum-told-3 : tie.Need-enum-told-3
+enum-told-3 c = search needs
+
+enum-told-4 : tie.Need-enum-told-4
+enum-told-4 c = search needs
+
+enum-told-5 : tie.Need-enum-told-5
+enum-told-5 c = search needs
+
+returns : tie.Need-returns
+returns c = ap (λ (m : Mark). markByte m % 2) (sym (c .enum-told .given .1))
+
+returns-2 : tie.Need-returns-2
+returns-2 c = ap (λ (m : Mark). markByte m % 2) (sym (c .enum-told2 .given .1))
+
+returns-3 : tie.Need-returns-3
+returns-3 c = ap (λ (m : Mark). markByte m % 2) (sym (c .enum-told3 .given .1))
+
+returns-4 : tie.Need-returns-4
+returns-4 c = ap (λ (m : Mark). markByte m % 2) (sym (c .enum-told4 .given .1))
+
+returns-5 : tie.Need-returns-5
+returns-5 c = ap (λ (m : Mark). markByte m % 2) (sym (c .enum-told5 .given .1))
+
+pub last-bit-spec : {M : Type 1} → statement M
+last-bit-spec =
+    tie.close
+    (tie.spec
+    enum-told
+    enum-told-2
+    enum-told-3
+    enum-told-4
+    enum-told-5
+    returns
+    returns-2
+    returns-3
+    returns-4
+    returns-5)
