@@ -9,7 +9,7 @@ use Rattle.format.specs.declared.Formatted.{Formatted}
 use Rattle.format.specs.declared.Formatted.the-variants.{Written}
 use Rattle.format.specs.declared.Formatted.the-variants as formats
 use Rattle.layouts.specs.Layouts.{layoutOf}
-use Rattle.layouts.specs.Refusals.{refusal}
+use Rattle.layouts.specs.Refusals.{refusal, refusalNumber}
 use Rattle.layouts.specs.declared.Checked.{Checked}
 use Rattle.layouts.specs.declared.Checked.the-variants.{Passed, Refused}
 
@@ -17,6 +17,15 @@ use Rattle.layouts.specs.declared.Checked.the-variants.{Passed, Refused}
 abbrev pub answered : Checked → Formatted
 answered Passed = Written
 answered (Refused f) = formats.Refused f
+
+-- The number of an answer: 0 for written, else the refusal's (01, "Refused calls").
+abbrev pub formattedNumber : Formatted → ℕ
+formattedNumber Written = 0
+formattedNumber (formats.Refused f) = refusalNumber f
+
+-- `formatted_number` answers the number of an answer.
+abbrev pub IsFormattedNumber : Formatted → ℕ → Type 0
+IsFormattedNumber answer number = number ≡ formattedNumber answer
 
 -- The image that a call leaves: a refused one leaves it as it was.
 abbrev pub left : Checked → List ℕ → List ℕ → List ℕ

@@ -1,7 +1,7 @@
 // The formatter: exactly the cells that ISO 7065-2 lays down for a track.
 use layouts::Chosen;
 use layouts::Refusal;
-ghost use Rattle.format.specs.Outcomes.{Formats};
+ghost use Rattle.format.specs.Outcomes.{Formats, IsFormattedNumber};
 
 mod tests;
 mod track;
@@ -32,5 +32,15 @@ pub fn format(
             track::write_track(taken, cylinder as u8, side as u8, data, marks, image);
             Formatted::Written
         }
+    }
+}
+
+// The number of an answer: 0 for written, else the refusal's.
+pub fn formatted_number(answer: Formatted) -> u8
+    ensures { λ r. ⌜ IsFormattedNumber answer r ⌝ }
+{
+    match answer {
+        Formatted::Written => 0,
+        Formatted::Refused(refusal) => layouts::refusal_number(refusal),
     }
 }

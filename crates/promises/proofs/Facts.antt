@@ -3,6 +3,8 @@ use mathlib.Core.List.{List, [], _∷_}
 use mathlib.Core.Path.{_≡_, refl}
 use Prim.Native.Nat.{ℕ}
 use Rattle.cells.specs.Coding.{clock, four, high, low}
+use Rattle.edc.specs.Register.{edcOf, bytesEntered, byteEntered, bitEntered}
+use Rattle.format.specs.Order.{track, sectors, sector, block, run, bytes, checked, image}
 use Rattle.layouts.specs.Layouts.{fields, sectorFields}
 use Rattle.promises.specs.Facts.{Fact, facts, Hold}
 
@@ -20,5 +22,5 @@ columns [] e = tt
 columns (fact ∷ facts) e = (cc, columns facts (cc))
 
 pub hold : Hold facts
-unfolding facts clock four high low fields sectorFields
+unfolding facts clock four high low fields sectorFields track sectors sector block run bytes checked image edcOf bytesEntered byteEntered bitEntered
 hold = columns facts refl

@@ -1,17 +1,19 @@
 -- The contract of every public function allows one outcome: a theorem for each, by the function's name.
 use mathlib.Core.List.{List}
-use mathlib.Core.Path.{_≡_, sym, _∙_}
+use mathlib.Core.Path.{_≡_, sym, ap₂, _∙_}
 use Prim.Native.Nat.{ℕ}
 use Rattle.cells.specs.Outcomes.{IsOctet, IsDataByte, IsCoded}
 use Rattle.cells.specs.declared.Mode.{Mode}
 use Rattle.edc.specs.Outcomes.{IsByteEntered, IsBytesEntered, IsEdc}
+use Rattle.format.specs.Outcomes.{Formats, IsFormattedNumber}
+use Rattle.format.specs.declared.Formatted.{Formatted}
 use Rattle.layouts.specs.Outcomes.{IsLayout, IsGapByte, IsRefusalNumber, IsNumbered, IsOnTrack, IsForReading, IsImageLength, IsAreaLength, IsMarkByte, IsControlRecord, IsSectorNumber}
 use Rattle.layouts.specs.declared.Layout.{Layout}
 use Rattle.layouts.specs.declared.Refusal.{Refusal}
 use Rattle.marks.specs.Outcomes.{TellsStanding, IsRegisterAfter, IsFirstMark}
 use Rattle.marks.specs.declared.Mark.{Mark}
 use Rattle.marks.specs.declared.Kinds.{Kinds}
-use Rattle.station.specs.Outcomes.{GivesEdc, GivesCoded, GivesDataByte}
+use Rattle.station.specs.Outcomes.{GivesEdc, GivesCoded, GivesDataByte, GivesFormat}
 use Rattle.promises.specs.Unique.{Unique}
 
 -- A relation that gives the outcome as a value.
@@ -87,6 +89,19 @@ control-record cylinder mark first = by-value _
 pub sector-number : (sectors sector : ℕ) → Unique (IsSectorNumber sectors sector)
 sector-number sectors sector = by-value _
 
+-- ---- format
+
+-- An answer and the image at exit.
+by-values : {A B : Type 0} (v : A) (w : B) → Unique (λ (o : A × B). (o .0 ≡ v) × (o .1 ≡ w))
+by-values v w x y p q = ap₂ (λ a b. (a, b)) (p .0 ∙ sym (q .0)) (p .1 ∙ sym (q .1))
+
+pub format : (layout cylinder side : ℕ) (contents marks before : List ℕ)
+    → Unique (λ (o : Formatted × List ℕ). Formats layout cylinder side contents marks before (o .0) (o .1))
+format layout cylinder side contents marks before x y p q = by-values _ _ x y (p .answers, p .leaves) (q .answers, q .leaves)
+
+pub formatted-number : (answer : Formatted) → Unique (IsFormattedNumber answer)
+formatted-number answer = by-value _
+
 -- ---- station
 
 pub station-edc : (bytes : List ℕ) → Unique (GivesEdc bytes)
@@ -98,3 +113,7 @@ station-code mode before byte = by-value _
 
 pub station-data-byte : (image : List ℕ) (place : ℕ) → Unique (GivesDataByte image place)
 station-data-byte image place = by-value _
+
+pub station-format : (layout cylinder side : ℕ) (contents marks before : List ℕ)
+    → Unique (λ (o : ℕ × List ℕ). GivesFormat layout cylinder side contents marks before (o .0) (o .1))
+station-format layout cylinder side contents marks before x y p q = by-values _ _ x y (p .answers, p .leaves) (q .answers, q .leaves)

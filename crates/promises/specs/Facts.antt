@@ -2,14 +2,17 @@
 use mathlib.Core.Bool.{cond, _&&_}
 use mathlib.Core.List.{List, [], _∷_}
 use mathlib.Core.Path.{_≡_}
-use Prim.Native.Nat.{ℕ}
+use Prim.Native.Nat.{ℕ, _+_}
 use lib.Dec.{eqb}
-use lib.ListN.{getD}
+use lib.ListN.{length, getD, take, drop, replicate}
 use Rattle.cells.specs.Coding.{high, low}
 use Rattle.cells.specs.declared.Mode.{Mode}
 use Rattle.cells.specs.declared.Mode.the-variants.{Fm, Mfm}
-use Rattle.marks.specs.Marks.{string}
-use Rattle.marks.specs.declared.Mark.the-variants.{Index, Identifier}
+use Rattle.format.specs.Order.{Symbol, plain, mark, image, track, numbers}
+use Rattle.marks.specs.Marks.{string, markByte}
+use Rattle.marks.specs.declared.Mark.{Mark}
+use Rattle.marks.specs.declared.Mark.the-variants.{Index, Identifier, Data}
+use Rattle.layouts.specs.declared.Layout.{Layout}
 use Rattle.layouts.specs.Layouts.{layout0, layout1, layout2, layout3, fields}
 
 -- A fact: what is computed, and what the paper expects.
@@ -23,7 +26,25 @@ coded mode before byte = high mode before byte ∷ low mode byte ∷ []
 
 -- 1 where the two image bytes of a byte after a ZERO are the first two of an MFM mark, else 0.
 abbrev taken : ℕ → List ℕ → ℕ
-taken byte mark = cond (eqb (high Mfm 0 byte) (getD mark 0 0) && eqb (low Mfm byte) (getD mark 1 0)) 1 0
+taken byte bs = cond (eqb (high Mfm 0 byte) (getD bs 0 0) && eqb (low Mfm byte) (getD bs 1 0)) 1 0
+
+-- The image bytes before the first such mark of a track.
+abbrev place : Mode → Mark → List Symbol → ℕ
+place mode m [] = 0
+place mode m (plain x ∷ ss) = 2 + place mode m ss
+place mode m (mark k ∷ ss) = cond (eqb (markByte k) (markByte m)) 0 (length (string mode k) + place mode m ss)
+
+-- A track of a layout with FB and zeros in every sector.
+abbrev symbols : Layout → ℕ → List Symbol
+symbols l cylinder = track l cylinder 0 (replicate (l .«area_bytes») 0) (replicate (l .sectors) 0xFB) (numbers (l .sectors) 1)
+
+-- The first identifier mark and the first data mark of it: where they begin, and what stands there in the image.
+abbrev places : Layout → ℕ → List ℕ
+places l cylinder = place (l .mode) Identifier (symbols l cylinder) ∷ place (l .mode) Data (symbols l cylinder) ∷ []
+
+abbrev standing : Layout → ℕ → Mark → List ℕ
+standing l cylinder m =
+    take (length (string (l .mode) m)) (drop (place (l .mode) m (symbols l cylinder)) (image (l .mode) 0 (symbols l cylinder)))
 
 -- The facts of 01, "Small facts", as far as what is built reaches.
 unfoldable pub facts : List Fact
@@ -46,6 +67,14 @@ facts =
     ∷ record { computed = coded Fm 0 0xFF; expected = 0xFF ∷ 0xFF ∷ [] }
     -- layouts add up to 5,208 and three times to 10,416
     ∷ record { computed = fields layout0 ∷ fields layout1 ∷ fields layout2 ∷ fields layout3 ∷ []; expected = 5208 ∷ 10416 ∷ 10416 ∷ 10416 ∷ [] }
+    -- layout 1: the first identifier mark begins at image byte 316, the first data mark at 404
+    ∷ record { computed = places layout1 1; expected = 316 ∷ 404 ∷ [] }
+    ∷ record { computed = standing layout1 1 Identifier; expected = string Mfm Identifier }
+    ∷ record { computed = standing layout1 1 Data; expected = string Mfm Data }
+    -- layout 0: the same at 158 and 206
+    ∷ record { computed = places layout0 0; expected = 158 ∷ 206 ∷ [] }
+    ∷ record { computed = standing layout0 0 Identifier; expected = string Fm Identifier }
+    ∷ record { computed = standing layout0 0 Data; expected = string Fm Data }
     ∷ []
 
 -- Every fact of a list holds.

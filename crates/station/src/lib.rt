@@ -4,7 +4,7 @@ ghost use mathlib.Core.Path.{_≡_};
 ghost use Prim.Native.Nat.{_+_, _*_};
 ghost use Rattle.cells.specs.Coding.{high, low};
 ghost use Rattle.cells.specs.declared.Mode.the-variants.{Fm, Mfm};
-ghost use Rattle.station.specs.Outcomes.{GivesEdc, GivesCoded, GivesDataByte};
+ghost use Rattle.station.specs.Outcomes.{GivesEdc, GivesCoded, GivesDataByte, GivesFormat};
 
 // The EDC of the bytes, with the register all ones at the start.
 #[no_mangle]
@@ -44,4 +44,21 @@ pub extern "C" fn station_data_byte(image: &[u8], place: usize) -> u8
     ensures { λ r. ⌜ GivesDataByte (now (image .entry)) place r ⌝ }
 {
     cells::data_byte(image, place)
+}
+
+// Formats a track: 0 where the image holds it, else the number of the refusal, and the image is as it was. `data` has the sectors' bytes
+// and `marks` a byte FB or F8 for each, by sector number.
+#[no_mangle]
+pub extern "C" fn station_format(
+    layout: u32,
+    cylinder: u32,
+    side: u32,
+    data: &[u8],
+    marks: &[u8],
+    image: &mut [u8],
+) -> u8
+    ensures { λ r. ⌜ GivesFormat layout cylinder side (now («data» .entry)) (now (marks .entry)) (now (image .entry)) r (now (image .exit)) ⌝ }
+{
+    let answer = format::format(layout, cylinder, side, data, marks, image);
+    format::formatted_number(answer)
 }
