@@ -7,6 +7,17 @@ mod exported {
         pub fn station_code_fm(before: u8, byte: u8) -> u16;
         pub fn station_code_mfm(before: u8, byte: u8) -> u16;
         pub fn station_data_byte(image: *const u8, len: usize, cell: usize) -> u8;
+        pub fn station_format(
+            layout: u32,
+            cylinder: u32,
+            side: u32,
+            data: *const u8,
+            data_len: usize,
+            marks: *const u8,
+            marks_len: usize,
+            image: *mut u8,
+            image_len: usize,
+        ) -> u8;
     }
 }
 
@@ -32,4 +43,23 @@ pub fn code_mfm(before: u8, byte: u8) -> u16 {
 pub fn data_byte(image: &[u8], cell: usize) -> u8 {
     // SAFETY: pointer and length are those of one live slice, which is only read; every cell number is taken.
     unsafe { exported::station_data_byte(image.as_ptr(), image.len(), cell) }
+}
+
+/// Writes a track, data and marks by sector number. 0: written; else the number of the refusal.
+pub fn format(layout: u32, cylinder: u32, side: u32, data: &[u8], marks: &[u8], image: &mut [u8]) -> u8 {
+    // SAFETY: each pointer and length are those of one live slice; `data` and `marks` are only read, and `image`, which
+    // is written, overlaps neither; every number is taken.
+    unsafe {
+        exported::station_format(
+            layout,
+            cylinder,
+            side,
+            data.as_ptr(),
+            data.len(),
+            marks.as_ptr(),
+            marks.len(),
+            image.as_mut_ptr(),
+            image.len(),
+        )
+    }
 }

@@ -1,5 +1,5 @@
 -- What is coded is read back, proved once over the mode: a clock cell is 0 or 1 in both, and nothing more is asked of it.
-use mathlib.Core.Path.{_≡_, refl, sym, _∙_}
+use mathlib.Core.Path.{_≡_, sym, _∙_}
 use Prim.Native.Nat.{ℕ, _+_, _-_, _*_, _/_, _%_, _<_}
 use native.Mathlib.Omega.{arith}
 use lib.Dec.{lit<}
@@ -54,16 +54,7 @@ pub read-back : (c : ℕ → ℕ) → ((i : ℕ) → c i < 2) → (mode : Mode) 
     → octet c p ≡ high mode a x → octet c (p + 8) ≡ low mode x → dataByte c p ≡ x
 read-back c bit mode a x p h e1 e2 = sym (data-octets c bit p) ∙ rw (e1, e2) (nibbles mode a x h)
 
--- ---- what the code's tables hold
-
--- The four bits of a number below 16, coded after the bit a.
-abbrev pub halfOf : Mode → ℕ → ℕ → ℕ
-halfOf mode a n = four mode a (n / 8) (n / 4 % 2) (n / 2 % 2) (n % 2)
-
--- FM takes no notice of the bit before.
-pub half-fm : (a n : ℕ) → halfOf Fm 0 n ≡ halfOf Fm a n
-unfolding four clock
-half-fm a n = refl
+-- ---- after a ONE
 
 -- After a ONE the first clock cell of MFM is 0.
 one-clock : (a d : ℕ) → (a ≡ 0 → ⊥) → clock Mfm a d ≡ 0
@@ -74,28 +65,15 @@ one-clock a d h = omega arith
 behind : (a b c d e f g h : ℕ) → b < 2 → c < 2 → d < 2 → e < 2 → f < 2 → g < 2 → h < 2 → byteOf a b c d e f g h % 128 ≡ byteOf 0 b c d e f g h
 behind a b c d e f g h hb hc hd he hf hg hh = omega arith
 
-pub half-one : (a n : ℕ) → n < 16 → (a ≡ 0 → ⊥) → halfOf Mfm 0 n % 128 ≡ halfOf Mfm a n
+four-one : (a d e f g : ℕ) → d < 2 → e < 2 → f < 2 → g < 2 → (a ≡ 0 → ⊥) → four Mfm 0 d e f g % 128 ≡ four Mfm a d e f g
 unfolding four
-half-one a n h o =
-    let d : n / 8 < 2 = omega arith in
-    behind (clock Mfm 0 (n / 8)) (n / 8) (clock Mfm (n / 8) (n / 4 % 2)) (n / 4 % 2) (clock Mfm (n / 4 % 2) (n / 2 % 2)) (n / 2 % 2) (clock Mfm (n / 2 % 2) (n % 2)) (n % 2)
-    d (clock-lt Mfm (n / 8) (n / 4 % 2)) (bit-lt (n / 4)) (clock-lt Mfm (n / 4 % 2) (n / 2 % 2)) (bit-lt (n / 2)) (clock-lt Mfm (n / 2 % 2) (n % 2)) (bit-lt n)
-    ∙ rw (one-clock a (n / 8) o)
+four-one a d e f g hd he hf hg o =
+    behind (clock Mfm 0 d) d (clock Mfm d e) e (clock Mfm e f) f (clock Mfm f g) g
+    hd (clock-lt Mfm d e) he (clock-lt Mfm e f) hf (clock-lt Mfm f g) hg
+    ∙ rw (one-clock a d o)
 
--- The two halves of a byte are its two image bytes.
-pub half-high : (mode : Mode) (a x : ℕ) → x < 256 → halfOf mode a (x / 16) ≡ high mode a x
+-- The first image byte after a ONE is that after a ZERO without its first cell.
+pub high-one : (a x : ℕ) → (a ≡ 0 → ⊥) → high Mfm 0 x % 128 ≡ high Mfm a x
 unfolding high
-half-high mode a x h =
-    let e7 : x / 16 / 8 ≡ x / 128 % 2 = omega arith in
-    let e6 : x / 16 / 4 % 2 ≡ x / 64 % 2 = omega arith in
-    let e5 : x / 16 / 2 % 2 ≡ x / 32 % 2 = omega arith in
-    rw (e7, e6, e5)
-
-pub half-low : (mode : Mode) (x : ℕ) → halfOf mode (x / 16 % 2) (x % 16) ≡ low mode x
-unfolding low
-half-low mode x =
-    let e3 : x % 16 / 8 ≡ x / 8 % 2 = omega arith in
-    let e2 : x % 16 / 4 % 2 ≡ x / 4 % 2 = omega arith in
-    let e1 : x % 16 / 2 % 2 ≡ x / 2 % 2 = omega arith in
-    let e0 : x % 16 % 2 ≡ x % 2 = omega arith in
-    rw (e3, e2, e1, e0)
+high-one a x o =
+    four-one a (x / 128 % 2) (x / 64 % 2) (x / 32 % 2) (x / 16 % 2) (bit-lt (x / 128)) (bit-lt (x / 64)) (bit-lt (x / 32)) (bit-lt (x / 16)) o

@@ -107,18 +107,44 @@ pub octet-read : (s : List ℕ) (i a b r : ℕ) → a < 256 → b < 256 → a �
     → r ≡ (a * 256 + b) / 2 ^ (8 - i % 8) % 256 → r ≡ octet (cell s) i
 octet-read s i a b r ha hb ea eb er = er ∙ rw (ea, eb) (joined s i (rw (← ea) ha) (rw (← eb) hb))
 
--- The data byte, as the code reads it: a, b and d are the three image bytes, x and y the two windows.
-pub data-read : (s : List ℕ) (i a b d x y : ℕ) → a < 256 → b < 256 → d < 256
+-- The data cells of sixteen cells, as the code takes them out, are those of the two octets.
+abbrev pub dataOf : ℕ → ℕ
+dataOf w = byteOf (w / 16384 % 2) (w / 4096 % 2) (w / 1024 % 2) (w / 256 % 2) (w / 64 % 2) (w / 16 % 2) (w / 4 % 2) (w % 2)
+
+pub data-halves : (w : ℕ) → dataOf w ≡ nibbleOf (w / 256) * 16 + nibbleOf (w % 256)
+data-halves w =
+    let e6 : w % 256 / 64 % 2 ≡ w / 64 % 2 = omega arith in
+    let e4 : w % 256 / 16 % 2 ≡ w / 16 % 2 = omega arith in
+    let e2 : w % 256 / 4 % 2 ≡ w / 4 % 2 = omega arith in
+    let e0 : w % 256 % 2 ≡ w % 2 = omega arith in
+    rw (shr-shr w 8 6, shr-shr w 8 4, shr-shr w 8 2, e6, e4, e2, e0) (omega arith)
+
+-- The window over three bytes is the two windows over two of them.
+wide-window : (a b d k : ℕ) → a < 256 → b < 256 → d < 256 → k < 8
+    → ((a * 65536 + b * 256 + d) / 2 ^ (8 - k) % 65536 / 256 ≡ (a * 256 + b) / 2 ^ (8 - k) % 256)
+    × ((a * 65536 + b * 256 + d) / 2 ^ (8 - k) % 65536 % 256 ≡ (b * 256 + d) / 2 ^ (8 - k) % 256)
+wide-window a b d zero ha hb hd h = omega arith
+wide-window a b d (suc zero) ha hb hd h = omega arith
+wide-window a b d (suc (suc zero)) ha hb hd h = omega arith
+wide-window a b d (suc (suc (suc zero))) ha hb hd h = omega arith
+wide-window a b d (suc (suc (suc (suc zero)))) ha hb hd h = omega arith
+wide-window a b d (suc (suc (suc (suc (suc zero))))) ha hb hd h = omega arith
+wide-window a b d (suc (suc (suc (suc (suc (suc zero)))))) ha hb hd h = omega arith
+wide-window a b d (suc (suc (suc (suc (suc (suc (suc zero))))))) ha hb hd h = omega arith
+wide-window a b d (suc (suc (suc (suc (suc (suc (suc (suc k)))))))) ha hb hd h = absurd (omega arith)
+
+-- The data byte, as the code reads it: a, b and d are the three image bytes, w the sixteen cells.
+pub data-read : (s : List ℕ) (i a b d w : ℕ) → a < 256 → b < 256 → d < 256
     → a ≡ getD s (i / 8) 0 → b ≡ getD s (i / 8 + 1) 0 → d ≡ getD s (i / 8 + 2) 0
-    → x ≡ (a * 256 + b) / 2 ^ (8 - i % 8) % 256 → y ≡ (b * 256 + d) / 2 ^ (8 - i % 8) % 256
-    → nibbleOf x * 16 + nibbleOf y ≡ dataByte (cell s) i
-data-read s i a b d x y ha hb hd ea eb ed ex ey =
+    → w ≡ (a * 65536 + b * 256 + d) / 2 ^ (8 - i % 8) % 65536 → dataOf w ≡ dataByte (cell s) i
+data-read s i a b d w ha hb hd ea eb ed ew =
     let q : (i + 8) / 8 ≡ i / 8 + 1 = omega arith in
     let q2 : (i + 8) / 8 + 1 ≡ i / 8 + 2 = omega arith in
     let k : (i + 8) % 8 ≡ i % 8 = omega arith in
-    let ox = octet-read s i a b x ha hb ea eb ex in
-    let oy = octet-read s (i + 8) b d y hb hd (rw q eb) (rw q2 ed) (rw k ey) in
-    rw (ox, oy) (data-octets (cell s) (cell-lt s) i)
+    let each = wide-window a b d (i % 8) ha hb hd (omega arith) in
+    let x = octet-read s i a b (w / 256) ha hb ea eb (rw ew (each .0)) in
+    let y = octet-read s (i + 8) b d (w % 256) hb hd (rw q eb) (rw q2 ed) (rw (ew, k) (each .1)) in
+    data-halves w ∙ rw (x, y) (data-octets (cell s) (cell-lt s) i)
 
 -- On a byte boundary the octet is the image's byte.
 pub aligned : (s : List ℕ) (k : ℕ) → getD s k 0 < 256 → getD s (k + 1) 0 < 256 → octet (cell s) (8 * k) ≡ getD s k 0

@@ -3,7 +3,8 @@
 ghost use mathlib.Core.Path.{_≡_};
 ghost use Prim.Native.Nat.{_+_, _-_, _*_, _<_, _/_, _%_, _^_};
 ghost use lib.ListN.{getD};
-ghost use Rattle.cells.specs.Coding.{four};
+ghost use Rattle.cells.specs.Cells.{byteOf};
+ghost use Rattle.cells.specs.Coding.{high, low};
 ghost use Rattle.cells.specs.Outcomes.{IsOctet, IsDataByte, IsCoded};
 
 // The two modes of recording (004, 4.1).
@@ -37,72 +38,71 @@ fn window(first: u8, second: u8, shift: usize) -> u8
     ((both >> (8 - shift)) % 256) as u8
 }
 
-// The eight cells from `place` on.
+// The eight cells from `place` on. One test tells that both bytes are there; else the second is 0.
 pub fn octet(image: &[u8], place: usize) -> u8
     ensures { λ r. ⌜ IsOctet (now (image .entry)) place r ⌝ }
 {
     let at = place / 8;
-    window(
-        byte_or_zero(image, at),
-        byte_or_zero(image, at + 1),
-        place % 8,
-    )
+    if at + 1 < image.len() {
+        return window(image[at], image[at + 1], place % 8);
+    }
+    window(byte_or_zero(image, at), 0, place % 8)
 }
 
-// The four data cells of each octet.
-const NIBBLES: [u8; 256] = *b"\x00\x01\x00\x01\x02\x03\x02\x03\x00\x01\x00\x01\x02\x03\x02\x03\
-    \x04\x05\x04\x05\x06\x07\x06\x07\x04\x05\x04\x05\x06\x07\x06\x07\
-    \x00\x01\x00\x01\x02\x03\x02\x03\x00\x01\x00\x01\x02\x03\x02\x03\
-    \x04\x05\x04\x05\x06\x07\x06\x07\x04\x05\x04\x05\x06\x07\x06\x07\
-    \x08\x09\x08\x09\x0A\x0B\x0A\x0B\x08\x09\x08\x09\x0A\x0B\x0A\x0B\
-    \x0C\x0D\x0C\x0D\x0E\x0F\x0E\x0F\x0C\x0D\x0C\x0D\x0E\x0F\x0E\x0F\
-    \x08\x09\x08\x09\x0A\x0B\x0A\x0B\x08\x09\x08\x09\x0A\x0B\x0A\x0B\
-    \x0C\x0D\x0C\x0D\x0E\x0F\x0E\x0F\x0C\x0D\x0C\x0D\x0E\x0F\x0E\x0F\
-    \x00\x01\x00\x01\x02\x03\x02\x03\x00\x01\x00\x01\x02\x03\x02\x03\
-    \x04\x05\x04\x05\x06\x07\x06\x07\x04\x05\x04\x05\x06\x07\x06\x07\
-    \x00\x01\x00\x01\x02\x03\x02\x03\x00\x01\x00\x01\x02\x03\x02\x03\
-    \x04\x05\x04\x05\x06\x07\x06\x07\x04\x05\x04\x05\x06\x07\x06\x07\
-    \x08\x09\x08\x09\x0A\x0B\x0A\x0B\x08\x09\x08\x09\x0A\x0B\x0A\x0B\
-    \x0C\x0D\x0C\x0D\x0E\x0F\x0E\x0F\x0C\x0D\x0C\x0D\x0E\x0F\x0E\x0F\
-    \x08\x09\x08\x09\x0A\x0B\x0A\x0B\x08\x09\x08\x09\x0A\x0B\x0A\x0B\
-    \x0C\x0D\x0C\x0D\x0E\x0F\x0E\x0F\x0C\x0D\x0C\x0D\x0E\x0F\x0E\x0F";
-
-// The four data cells of eight cells, as a number.
-fn nibble(octet: u8) -> u8
-    ensures { λ r. ⌜ (r ≡ octet / 64 % 2 * 8 + octet / 16 % 2 * 4 + octet / 4 % 2 * 2 + octet % 2) × (r < 16) ⌝ }
+// The sixteen cells that begin `shift` cells into three image bytes.
+fn wide_window(first: u8, second: u8, third: u8, shift: usize) -> u32
+    requires { ⌜ shift < 8 ⌝ }
+    ensures { λ r. ⌜ r ≡ (first * 65536 + second * 256 + third) / 2 ^ (8 - shift) % 65536 ⌝ }
 {
-    NIBBLES[octet as usize]
+    let all = (first as u32) * 65536 + (second as u32) * 256 + (third as u32);
+    (all >> (8 - shift)) % 65536
 }
 
-// The data byte of the sixteen cells from `place` on.
+// The data cells of sixteen cells, put together as a byte. Each product adds the cells to themselves one, two and four places up, and the
+// mask keeps those that came together.
+fn together(cells: u32) -> u8
+    requires { ⌜ cells < 65536 ⌝ }
+    ensures { λ r. ⌜ r ≡ byteOf (cells / 16384 % 2) (cells / 4096 % 2) (cells / 1024 % 2) (cells / 256 % 2) (cells / 64 % 2) (cells / 16 % 2) (cells / 4 % 2) (cells % 2) ⌝ }
+{
+    let data = cells & 0x5555;
+    let pairs = (data * 3) & 0x6666;
+    let nibbles = (pairs * 5) & 0x7878;
+    (nibbles * 17 / 128 % 256) as u8
+}
+
+// The data byte of the sixteen cells from `place` on. One test tells that all three bytes are there; else the third is 0.
 pub fn data_byte(image: &[u8], place: usize) -> u8
     ensures { λ r. ⌜ IsDataByte (now (image .entry)) place r ⌝ }
 {
     let at = place / 8;
     let shift = place % 8;
-    let middle = byte_or_zero(image, at + 1);
-    let first = window(byte_or_zero(image, at), middle, shift);
-    let second = window(middle, byte_or_zero(image, at + 2), shift);
-    nibble(first) * 16 + nibble(second)
+    if at + 2 < image.len() {
+        return together(wide_window(image[at], image[at + 1], image[at + 2], shift));
+    }
+    together(wide_window(
+        byte_or_zero(image, at),
+        byte_or_zero(image, at + 1),
+        0,
+        shift,
+    ))
 }
 
-// The eight cells of each four data bits: in FM, and in MFM after a ZERO.
-const FM: [u8; 16] = *b"\xAA\xAB\xAE\xAF\xBA\xBB\xBE\xBF\xEA\xEB\xEE\xEF\xFA\xFB\xFE\xFF";
-
-const MFM: [u8; 16] = *b"\xAA\xA9\xA4\xA5\x92\x91\x94\x95\x4A\x49\x44\x45\x52\x51\x54\x55";
-
-// Four data bits after a bit, as eight cells. After a ONE the first clock cell of MFM is 0, whatever follows.
-fn half(mode: Mode, before: u8, bits: u8) -> u8
-    requires { ⌜ bits < 16 ⌝ }
-    ensures { λ r. ⌜ r ≡ four mode before (bits / 8) (bits / 4 % 2) (bits / 2 % 2) (bits % 2) ⌝ }
+// The sixteen cells of `byte` after the bit `before`. After a ONE the first clock cell of MFM is 0, whatever follows.
+fn sixteen(mode: Mode, before: u8, byte: u8) -> u32
+    ensures { λ r. ⌜ r ≡ high mode before byte * 256 + low mode byte ⌝ }
 {
+    let bits = byte as u32;
+    let nibbles = (bits | (bits << 4)) & 0x0F0F;
+    let pairs = (nibbles | (nibbles << 2)) & 0x3333;
+    let data = (pairs | (pairs << 1)) & 0x5555;
     match mode {
-        Mode::Fm => FM[bits as usize],
+        Mode::Fm => data | 0xAAAA,
         Mode::Mfm => {
+            let cells = data | ((((data << 1) | (data >> 1)) & 0xAAAA) ^ 0xAAAA);
             if before == 0 {
-                return MFM[bits as usize];
+                return cells;
             }
-            MFM[bits as usize] % 128
+            cells % 32768
         }
     }
 }
@@ -111,9 +111,9 @@ fn half(mode: Mode, before: u8, bits: u8) -> u8
 pub fn coded(mode: Mode, before: u8, byte: u8) -> Pair
     ensures { λ r. ⌜ IsCoded mode before byte r ⌝ }
 {
-    let upper = byte / 16;
+    let cells = sixteen(mode, before, byte);
     Pair {
-        first: half(mode, before, upper),
-        second: half(mode, upper % 2, byte % 16),
+        first: (cells / 256) as u8,
+        second: (cells % 256) as u8,
     }
 }

@@ -40,6 +40,19 @@ xor-up a b =
     let e : bitXor a b * 2 ≡ bitXor (a * 2) (b * 2) = omega (arith, half, xor-odd (a * 2) (b * 2)) in
     ap (λ k. k % 65536) e ∙ xor-mod (a * 2) (b * 2) 16
 
+-- the register in the upper half of a word
+pub upper : {x w : ℕ} → w ≡ x * 65536 → w / 65536 ≡ x
+upper e = omega arith
+
+-- an exclusive OR there
+pub xor-upper : (a b : ℕ) → bitXor (a * 65536) (b * 65536) ≡ bitXor a b * 65536
+xor-upper a b =
+    let p : a * 65536 / 65536 ≡ a = omega arith in
+    let q : b * 65536 / 65536 ≡ b = omega arith in
+    let z : a * 65536 % 65536 ≡ 0 = omega arith in
+    let w : b * 65536 % 65536 ≡ 0 = omega arith in
+    omega (arith, xor-shr (a * 65536) (b * 65536) 16 ∙ ap₂ bitXor p q, xor-mod (a * 65536) (b * 65536) 16 ∙ ap₂ bitXor z w)
+
 -- one shift: of what was added the highest digit has entered, and the rest is added one place up
 bit-linear : (s t : ℕ) → bitEntered (bitXor s t) 0 ≡ bitXor (bitEntered s (t / 32768)) (t * 2 % 65536)
 unfolding bitEntered

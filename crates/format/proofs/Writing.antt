@@ -13,7 +13,7 @@ use Rattle.cells.specs.declared.Mode.{Mode}
 use Rattle.cells.specs.declared.Mode.the-variants.{Fm, Mfm}
 use Rattle.cells.specs.declared.Pair.{Pair}
 use Rattle.edc.specs.Register.{bytesEntered, edcOf, edcBytes}
-use Rattle.edc.proofs.Laws.{bytes-append, bytes-end}
+use Rattle.edc.proofs.Laws.{bytes-append}
 use Rattle.layouts.specs.Layouts.{markBytes}
 use Rattle.marks.specs.Marks.{string, covered, registerAfter, markByte}
 use Rattle.marks.specs.declared.Mark.{Mark}
@@ -117,15 +117,14 @@ pub register-all : (mode : Mode) (mark : Mark) (xs : List ℕ) → bytesEntered 
 unfolding registerAfter edcOf
 register-all mode mark xs = sym (bytes-append 65535 (covered mode mark) xs)
 
--- The whole field, from where the loop over its bytes ended: r is the register there.
-module _ (mode : Mode) (mark : Mark) (xs area₀ area : List ℕ) (at i before₀ before register₀ r : ℕ)
-    (eb : before₀ ≡ markByte mark % 2) (er : register₀ ≡ registerAfter mode mark)
-    (entered : bytesEntered register₀ xs ≡ bytesEntered r (drop i xs))
-    (stored : sets area₀ at (image mode before₀ (bytes (xs ++ edcBytes (bytesEntered register₀ xs)) []))
-    ≡ sets area (at + 2 * i) (image mode before (bytes (drop i xs ++ edcBytes (bytesEntered register₀ xs)) [])))
+-- The whole field, from where the loop over its bytes ended: r is its register.
+module _ (mode : Mode) (mark : Mark) (xs area₀ area : List ℕ) (at i before₀ before first r : ℕ)
+    (eb : before₀ ≡ markByte mark % 2) (er : first ≡ registerAfter mode mark) (entered : r ≡ bytesEntered first xs)
+    (stored : sets area₀ at (image mode before₀ (bytes (xs ++ edcBytes r) []))
+    ≡ sets area (at + 2 * i) (image mode before (bytes (drop i xs ++ edcBytes r) [])))
     (past : length xs ≤ i) where
   register-done : edcOf (covered mode mark ++ xs) ≡ r
-  register-done = sym (register-all mode mark xs) ∙ rw (← er) (entered ∙ bytes-end r xs i past)
+  register-done = sym (register-all mode mark xs) ∙ rw (← er) (sym entered)
 
   pub checked-written : (one two : List ℕ) (p q : Pair)
       → one ≡ sets area (at + 2 * i) (p .first ∷ p .second ∷ []) → p ≡ codedByte mode before (r / 256)
@@ -133,8 +132,7 @@ module _ (mode : Mode) (mark : Mark) (xs area₀ area : List ℕ) (at i before�
       → two ≡ sets area₀ at (image mode (markByte mark % 2) (bytes (checked mode mark xs) []))
   unfolding checked
   checked-written one two p q e f g k =
-      let all : bytesEntered register₀ xs ≡ r = entered ∙ bytes-end r xs i past in
-      sym (rw (register-done, ← eb) (rw all at stored) ∙ edc-stored area one two at i mode before r p q xs past e f g k)
+      sym (rw (register-done, ← eb) stored ∙ edc-stored area one two at i mode before r p q xs past e f g k)
 
   pub checked-bit : r % 256 % 2 ≡ edcOf (covered mode mark ++ xs) % 2
   checked-bit = rw register-done (omega arith)

@@ -94,26 +94,30 @@ fn last_bit(mark: Mark) -> u8
     }
 }
 
-// Bytes after a mark, and their EDC: each byte is coded and enters the register in one turn. The answer is the EDC's last bit.
+// Bytes after a mark, and their EDC; the answer is the EDC's last bit. The register goes over the bytes first, by itself: the loop that
+// codes them has then nothing that one turn waits for another for.
 fn write_checked(mode: Mode, mark: Mark, contents: &[u8], area: &mut [u8], at: usize) -> u8
     requires { ⌜ at + 2 * (length (now contents) + 2) ≤ length (now area) ⌝ }
     ensures written { λ _. ⌜ now (area .exit) ≡ sets (now (area .entry)) at (image mode (markByte mark % 2) (bytes (checked mode mark (now (contents .entry))) [])) ⌝ }
     ensures bit { λ r. ⌜ r ≡ edcOf (covered mode mark ++ now (contents .entry)) % 2 ⌝ }
 {
-    let mut register = marks::register_after(mode, mark);
+    let register = edc::bytes_entered(marks::register_after(mode, mark), contents);
     let mut before = last_bit(mark);
     let mut i = 0;
     while i < contents.len() {
         let byte = contents[i];
         write_pair(area, at + 2 * i, cells::coded(mode, before, byte));
-        register = edc::byte_entered(register, byte);
         before = byte % 2;
         i += 1;
     }
     let upper = (register / 256) as u8;
     let lower = (register % 256) as u8;
     write_pair(area, at + 2 * i, cells::coded(mode, before, upper));
-    write_pair(area, at + 2 * i + 2, cells::coded(mode, upper % 2, lower));
+    write_pair(
+        area,
+        at + 2 * i + 2,
+        cells::coded(mode, upper % 2, lower),
+    );
     lower % 2
 }
 

@@ -1,12 +1,14 @@
 -- Where a mark begins in one byte, the next byte lies wholly inside it, and so tells in which cells a mark can begin.
-use mathlib.Core.Path.{_≡_, sym, ap, _∙_}
+use mathlib.Core.Path.{_≡_, refl, sym, ap, _∙_}
 use mathlib.Core.Bool.{Bool, true, false, _||_}
 use mathlib.Core.List.{List}
-use Prim.Native.Nat.{ℕ, _+_, _-_, _*_, _/_, _%_, _^_, _<_}
+use mathlib.Core.Logic.{⊎-elim}
+use Prim.Native.Nat.{ℕ, _+_, _-_, _*_, _/_, _%_, _^_, _<_, _≤_}
 use native.Mathlib.Omega.{arith}
 use lib.Dec.{T, eqb, eqb→eq}
-use native.Mathlib.Nat.{add-zero, zero-div}
+use native.Mathlib.Nat.{add-zero, zero-div, zero-mul, mul-assoc, eq-or-lt-of-le}
 use lib.ListN.{length, getD}
+use lib.Pow.{field, mod-mod-pow, pow-add, shl-shr, shr-shr}
 use Rattle.cells.specs.Cells.{cell, byteOf, octet}
 use Rattle.cells.specs.declared.Mode.{Mode}
 use Rattle.cells.specs.declared.Mode.the-variants.{Fm, Mfm}
@@ -83,28 +85,58 @@ rules mode byte c bit n p kinds e z = standing-none mode c n kinds p (λ mark t.
         let w : _≡_ {A = ℕ} 0 1 = sym zero′ ∙ one in
         omega arith
 
--- What the code's table gives, in the mode that an arm of the code knows.
+-- What a table holds, in the mode that an arm of the code knows.
 pub rules-by : {mode : Mode} (m : Mode) (byte r : ℕ) → mode ≡ m → r ≡ begins m byte → Rules mode byte r
 rules-by m byte r e f = rw (e, f) (rules m byte)
 
--- ---- what the search passes over: image is the list of the image's bytes, and next the byte behind that of place
+-- ---- the cells of one byte, tried one after the other: what is left of the byte's bits has the next cell's at the top
 
-module _ (mode : Mode) (kinds : Kinds) (image : List ℕ) (place begin : ℕ)
-    (byte : getD image (place / 8 + 1) 0 < 256) (behind : getD image (place / 8 + 1 + 1) 0 < 256)
-    (known : Rules mode (getD image (place / 8 + 1) 0) begin) where
-  -- the places of one byte, by the bit of each
-  passed : (j : ℕ) → place + j < 8 * (place / 8 + 1) → begin / 2 ^ (7 - (place + j) % 8) % 2 ≡ 0
-      → some mode (cell image) (8 * length image) kinds (place + j) ≡ false
-  passed j h z =
-      let e : (place + j) / 8 ≡ place / 8 = omega arith in
-      some-none mode (cell image) (8 * length image) kinds (place + j)
-      (known (cell image) (cell-lt image) (8 * length image) (place + j) kinds
-      (rw e (aligned image (place / 8 + 1) byte behind)) z)
+-- Of what is left after o cells, bit j is that of cell o + j.
+left-bit : (b o j : ℕ) → o + j < 8 → b * 2 ^ o % 256 / 2 ^ (7 - j) % 2 ≡ b / 2 ^ (7 - (o + j)) % 2
+left-bit b o j h =
+    let width : j + 1 + (7 - j) ≡ 8 = omega arith in
+    let low : 7 - j ≡ o + (7 - (o + j)) = omega arith in
+    ap (λ (k : ℕ). b * 2 ^ o % 2 ^ k / 2 ^ (7 - j) % 2) (sym width)
+    ∙ ap (λ (x : ℕ). x % 2) (field (b * 2 ^ o) (j + 1) (7 - j))
+    ∙ mod-mod-pow (b * 2 ^ o / 2 ^ (7 - j)) j 1
+    ∙ ap (λ (k : ℕ). b * 2 ^ o / 2 ^ k % 2) low
+    ∙ ap (λ (x : ℕ). x % 2) (sym (shr-shr (b * 2 ^ o) o (7 - (o + j))) ∙ ap (λ (x : ℕ). x / 2 ^ (7 - (o + j))) (shl-shr b o))
 
-  -- one place
-  pub passed-one : begin / 2 ^ (7 - place % 8) % 2 ≡ 0 → some mode (cell image) (8 * length image) kinds place ≡ false
-  passed-one z = rw add-zero at (passed 0 (omega arith) (rw add-zero z))
+-- One cell more.
+pub left-next : (b o : ℕ) → b * 2 ^ o % 256 % 128 * 2 ≡ b * 2 ^ (o + 1) % 256
+left-next b o =
+    let e : b * 2 ^ (o + 1) ≡ b * 2 ^ o * 2 = ap (λ (x : ℕ). b * x) (pow-add 2 o 1) ∙ sym (mul-assoc b (2 ^ o) 2) in
+    rw e (omega arith)
 
-  -- all the places up to the next byte
-  pub passed-all : begin ≡ 0 → (j : ℕ) → j < 8 * (place / 8 + 1) - place → some mode (cell image) (8 * length image) kinds (place + j) ≡ false
-  passed-all z j h = passed j (omega arith) (rw (z, zero-div))
+-- Something is left only before the next byte.
+pub left-within : (b o left : ℕ) → o ≤ 8 → left ≡ b * 2 ^ o % 256 → (left ≡ 0 → ⊥) → o < 8
+left-within b o left h e more = ⊎-elim (λ q. absurd (more (e ∙ rw q (omega arith)))) (λ l. l) (eq-or-lt-of-le h)
+
+-- ---- what the search passes over: image is the list of the image's bytes, and known what the byte behind that of `from` says
+
+module _ (mode : Mode) (kinds : Kinds) (image : List ℕ) (from begin : ℕ)
+    (byte : getD image (from / 8 + 1) 0 < 256) (behind : getD image (from / 8 + 1 + 1) 0 < 256)
+    (known : Rules mode (getD image (from / 8 + 1) 0) begin) where
+  -- the cell o of the byte, by its bit
+  passed : (o p : ℕ) → o < 8 → p ≡ 8 * (from / 8) + o → begin / 2 ^ (7 - o) % 2 ≡ 0 → some mode (cell image) (8 * length image) kinds p ≡ false
+  passed o p h e z =
+      let q : p / 8 ≡ from / 8 = omega arith in
+      let r : p % 8 ≡ o = omega arith in
+      some-none mode (cell image) (8 * length image) kinds p
+      (known (cell image) (cell-lt image) (8 * length image) p kinds (rw q (aligned image (from / 8 + 1) byte behind)) (rw r z))
+
+  -- one cell, where the top bit of what is left is 0
+  pub passed-one : (o p left : ℕ) → o < 8 → p ≡ 8 * (from / 8) + o → left ≡ begin * 2 ^ o % 256 → left < 128
+      → some mode (cell image) (8 * length image) kinds p ≡ false
+  passed-one o p left h e f l =
+      passed o p h e (sym (rw add-zero at (left-bit begin o 0 (omega arith))) ∙ rw (← f) (omega arith))
+
+  -- all the cells up to the next byte, where nothing is left
+  pub passed-all : (o p left : ℕ) → p ≡ 8 * (from / 8) + o → left ≡ begin * 2 ^ o % 256 → left ≡ 0
+      → (j : ℕ) → j < 8 * (from / 8 + 1) - p → some mode (cell image) (8 * length image) kinds (p + j) ≡ false
+  passed-all o p left e f z j h =
+      passed (o + j) (p + j) (omega arith) (omega arith) (sym (left-bit begin o j (omega arith)) ∙ rw (← f, z, zero-div))
+
+  -- all of them, where no mark can begin
+  pub passed-byte : begin ≡ 0 → (j : ℕ) → j < 8 * (from / 8 + 1) - from → some mode (cell image) (8 * length image) kinds (from + j) ≡ false
+  passed-byte z = passed-all (from % 8) from 0 (omega arith) (rw (z, zero-mul)) refl

@@ -2,3 +2,4 @@ pub mod Spelling
 pub mod Searching
 pub mod Begins
 pub mod Clash
+pub mod Telling

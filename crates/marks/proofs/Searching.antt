@@ -19,8 +19,12 @@ use Rattle.marks.specs.declared.Found.{Found}
 use Rattle.marks.specs.declared.Found.the-variants.{At, Nothing}
 use Rattle.marks.proofs.Spelling.{lies-beyond, string-length}
 
-le-or-lt : (a b : ℕ) → (a ≤ b) ⊎ (b < a)
+pub le-or-lt : (a b : ℕ) → (a ≤ b) ⊎ (b < a)
 le-or-lt a b = elim (decLe a b) [ yes h ↦ inl h | no h ↦ inr (omega arith) ]
+
+-- A search that found a mark did not find nothing.
+pub nothing-at : {q : ℕ} {mark : Mark} → Nothing ≡ At q mark → ⊥
+nothing-at e = let z : _≡_ {A = ℕ} 0 1 = cc in omega arith
 
 module _ (test : ℕ → Bool) where
   -- no place is left
@@ -116,6 +120,11 @@ module _ (mode : Mode) (c : ℕ → ℕ) (n : ℕ) (kinds : Kinds) where
       → find (some mode c n kinds) (to - p) p ≡ nowhere → Nothing ≡ firstMark mode c n kinds from to
   unfolding firstMark
   settled-none from to p e f = sym (ap (named mode c n kinds) (e ∙ f))
+
+  pub settled : (from to p : ℕ) {r : Found} → find (some mode c n kinds) (to - from) from ≡ find (some mode c n kinds) (to - p) p
+      → r ≡ firstMark mode c n kinds p to → r ≡ firstMark mode c n kinds from to
+  unfolding firstMark
+  settled from to p e f = f ∙ sym (ap (named mode c n kinds) e)
 
   pub settled-found : (from to p q : ℕ) (mark : Mark) (r : Found) → find (some mode c n kinds) (to - from) from ≡ find (some mode c n kinds) (to - p) p
       → p < to → r ≡ standing mode c n kinds p → r ≡ At q mark → r ≡ firstMark mode c n kinds from to

@@ -1,12 +1,12 @@
 // The marks of a track: fixed strings of image bytes, compared at any cell, and the search for the first of given kinds.
 use cells::Mode;
 ghost use mathlib.Core.Path.{_≡_};
-ghost use mathlib.Core.Bool.{false};
-ghost use Prim.Native.Nat.{_+_, _-_, _*_, _≤_, _<_, _/_, _%_};
-ghost use lib.ListN.{length};
+ghost use mathlib.Core.Bool.{true, false};
+ghost use Prim.Native.Nat.{ℕ, _+_, _-_, _*_, _≤_, _<_, _/_, _%_, min};
+ghost use lib.ListN.{length, getD};
 ghost use Rattle.cells.specs.Cells.{cell};
 ghost use Rattle.marks.specs.Marks.{spells, lies, stands};
-ghost use Rattle.marks.specs.Search.{among, sought, standing, Rules};
+ghost use Rattle.marks.specs.Search.{find, among, sought, standing, some, Rules};
 ghost use Rattle.marks.specs.Outcomes.{Housed, TellsStanding, IsRegisterAfter, IsFirstMark};
 
 // The marks: FC, FE, FB, F8, and the house mark F9 of a rewrite under way.
@@ -162,16 +162,6 @@ const BEGINS_MFM: [u8; 256] = *b"\x00\x00\x00\x00\x00\x00\x00\x00\x00\x00\x00\x0
     \x00\x00\x00\x00\x00\x00\x00\x00\x00\x00\x00\x00\x00\x00\x00\x00\
     \x00\x00\x00\x00\x00\x00\x00\x00\x00\x00\x00\x00\x00\x00\x00\x00";
 
-// In which cells of the byte before `byte` a mark may begin: where the answer's bit is 0, none does.
-fn beginnings(mode: Mode, byte: u8) -> u8
-    ensures { λ r. ⌜ Rules mode byte r ⌝ }
-{
-    match mode {
-        Mode::Fm => BEGINS_FM[byte as usize],
-        Mode::Mfm => BEGINS_MFM[byte as usize],
-    }
-}
-
 // Whether the mark is of the kinds.
 fn is_among(kinds: Kinds, mark: Mark) -> bool
     ensures { λ r. ⌜ r ≡ among kinds mark ⌝ }
@@ -196,50 +186,115 @@ fn is_sought(mode: Mode, kinds: Kinds, mark: Mark, image: &[u8], place: usize) -
     false
 }
 
-// Which mark of the kinds stands at `place`.
+// The only mark that can stand at `place`, by its last byte. The index mark, which is not looked for, says that none can.
+fn told(mode: Mode, image: &[u8], place: usize) -> Mark
+    requires { ⌜ place < 4294967296 ⌝ }
+    ensures { λ r. ⌜ ((kinds : Kinds) (mark : Mark) → sought mode (cell (now (image .entry))) (8 * length (now (image .entry))) kinds place mark ≡ true → r ≡ mark) ⌝ }
+{
+    match mode {
+        Mode::Fm => {
+            let last = cells::octet(image, place + 8);
+            match last {
+                0x7E => Mark::Identifier,
+                0x6F => Mark::Data,
+                0x6A => Mark::Control,
+                0x6B => Mark::Open,
+                _ => Mark::Index,
+            }
+        }
+        Mode::Mfm => {
+            let last = cells::octet(image, place + 56);
+            match last {
+                0x54 => Mark::Identifier,
+                0x45 => Mark::Data,
+                0x4A => Mark::Control,
+                0x49 => Mark::Open,
+                _ => Mark::Index,
+            }
+        }
+    }
+}
+
+// Which mark of the kinds stands at `place`. Its last byte tells the only one that can.
 fn standing(mode: Mode, kinds: Kinds, image: &[u8], place: usize) -> Found
-    requires { ⌜ Housed (now image) ⌝ }
+    requires { ⌜ Housed (now image) × (place < 4294967296) ⌝ }
     ensures { λ r. ⌜ r ≡ standing mode (cell (now (image .entry))) (8 * length (now (image .entry))) kinds place ⌝ }
 {
-    if is_sought(mode, kinds, Mark::Identifier, image, place) {
-        return Found::At(place, Mark::Identifier);
-    }
-    if is_sought(mode, kinds, Mark::Data, image, place) {
-        return Found::At(place, Mark::Data);
-    }
-    if is_sought(mode, kinds, Mark::Control, image, place) {
-        return Found::At(place, Mark::Control);
-    }
-    if is_sought(mode, kinds, Mark::Open, image, place) {
-        return Found::At(place, Mark::Open);
+    let mark = told(mode, image, place);
+    if is_sought(mode, kinds, mark, image, place) {
+        return Found::At(place, mark);
     }
     Found::Nothing
 }
 
-// The first mark of the kinds that begins at a cell from `from` up to and without `to`. One look at the byte behind a cell's own rules
-// out eight places at once.
-pub fn find(mode: Mode, kinds: Kinds, image: &[u8], from: usize, to: usize) -> Found
-    requires { ⌜ Housed (now image) ⌝ }
-    ensures { λ r. ⌜ IsFirstMark mode kinds (now (image .entry)) from to r ⌝ }
+// The first mark of the kinds that begins in the byte of `from`, at a cell from `from` up to and without `to`. Only the cells that
+// `begins` has are looked at.
+fn tried(begins: u8, mode: Mode, kinds: Kinds, image: &[u8], from: usize, to: usize) -> Found
+    requires { ⌜ Housed (now image) × (from / 8 + 1 < length (now image)) × Rules mode (getD (now image) (from / 8 + 1) 0) begins ⌝ }
+    ensures passes { λ r. ⌜ (r ≡ Found.Nothing → find (some mode (cell (now (image .entry))) (8 * length (now (image .entry))) kinds) (to - from) from ≡ find (some mode (cell (now (image .entry))) (8 * length (now (image .entry))) kinds) (to - 8 * (from / 8 + 1)) (8 * (from / 8 + 1))) ⌝ }
+    ensures finds { λ r. ⌜ ((q : ℕ) (mark : Mark) → r ≡ Found.At q mark → IsFirstMark mode kinds (now (image .entry)) from to r) ⌝ }
 {
+    let mut left = ((begins as u32) << (from % 8)) % 256;
     let mut place = from;
-    while place < to {
-        let next = place / 8 + 1;
-        if image.len() <= next {
-            return Found::Nothing;
-        }
-        let begins = beginnings(mode, image[next]);
-        if begins == 0 {
-            place = 8 * next;
-            continue;
-        }
-        if (begins >> (7 - place % 8)) % 2 == 1 {
+    while left != 0 {
+        if 128 <= left {
+            if to <= place {
+                return Found::Nothing;
+            }
             let found = standing(mode, kinds, image, place);
             if let Found::At(_, _) = found {
                 return found;
             }
         }
+        left = left % 128 * 2;
         place += 1;
     }
     Found::Nothing
+}
+
+// The lesser of two numbers.
+fn lesser(a: usize, b: usize) -> usize
+    ensures { λ r. ⌜ r ≡ min a b ⌝ }
+{
+    if a < b { a } else { b }
+}
+
+// The search itself, over the table of its mode. One look at the byte behind a cell's own rules out eight places at once.
+fn search(
+    begins: &[u8; 256],
+    mode: Mode,
+    kinds: Kinds,
+    image: &[u8],
+    from: usize,
+    to: usize,
+) -> Found
+    requires { ⌜ Housed (now image) × ((byte : ℕ) → byte < 256 → Rules mode byte (getD (now begins) byte 0)) ⌝ }
+    ensures { λ r. ⌜ IsFirstMark mode kinds (now (image .entry)) from to r ⌝ }
+{
+    let end = lesser(image.len(), to / 8 + 2);
+    let mut place = from;
+    let mut next = from / 8 + 1;
+    while next < end {
+        let cells = begins[image[next] as usize];
+        if cells != 0 {
+            let found = tried(cells, mode, kinds, image, place, to);
+            if let Found::At(_, _) = found {
+                return found;
+            }
+        }
+        place = 8 * next;
+        next += 1;
+    }
+    Found::Nothing
+}
+
+// The first mark of the kinds that begins at a cell from `from` up to and without `to`.
+pub fn find(mode: Mode, kinds: Kinds, image: &[u8], from: usize, to: usize) -> Found
+    requires { ⌜ Housed (now image) ⌝ }
+    ensures { λ r. ⌜ IsFirstMark mode kinds (now (image .entry)) from to r ⌝ }
+{
+    match mode {
+        Mode::Fm => search(&BEGINS_FM, mode, kinds, image, from, to),
+        Mode::Mfm => search(&BEGINS_MFM, mode, kinds, image, from, to),
+    }
 }

@@ -3,7 +3,7 @@
 /// The register stands in the upper half of a word, so that C15 is the word's sign and a shift lets it go.
 type Register = u32;
 
-const ALL_ONES: Register = 0xFFFF_0000;
+const ALL_ONES: u16 = 0xFFFF;
 
 /// C12, C5 and C0, which the feedback enters: X^12 + X^5 + 1.
 const FEEDBACK: Register = (1 << 12 | 1 << 5 | 1) << 16;
@@ -11,7 +11,12 @@ const FEEDBACK: Register = (1 << 12 | 1 << 5 | 1) << 16;
 /// The register after all bits of the bytes, the most significant bit of each first. The EDC is its two bytes, the high
 /// one first.
 pub fn edc(bytes: &[u8]) -> u16 {
-    let register = bytes.iter().fold(ALL_ONES, |register, &byte| after(register, byte));
+    continued(ALL_ONES, bytes)
+}
+
+/// The same from any other register on: what earlier bytes left in it.
+pub fn continued(register: u16, bytes: &[u8]) -> u16 {
+    let register = bytes.iter().fold(Register::from(register) << 16, |register, &byte| after(register, byte));
     (register >> 16) as u16
 }
 

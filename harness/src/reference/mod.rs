@@ -1,3 +1,4 @@
 //! The papers' rules once more in Rust: written from document 01 and ISO 7065-2 ("004"), not from the Rattle code.
 pub mod coding;
 pub mod edc;
+pub mod format;

@@ -1,68 +1,88 @@
--- `data_byte` meets its contract: the data cells of the two windows are those of the sixteen cells.
-use borrow.Author.Needs.{needs}
-use mathlib.Core.Path.{ap₂, _∙_}
-use Prim.Native.Nat.{ℕ, _+_, _*_}
+-- `data_byte` meets its contract: the three bytes joined have the sixteen cells, and where the test fails the third is 0.
 use denote.Ref.{now}
+use mathlib.Core.Path.{refl, sym, _∙_}
+use Prim.Native.Nat.{_+_, _/_}
+use native.Mathlib.Omega.{arith}
+use lib.ListN.{List·getD-eq-default}
 use Rattle.cells.proofs.Joined.{data-read}
+use borrow.Author.Needs.{needs}
 use Rattle.cells.proofs.data_byte.Statement.{statement}
 use Rattle.cells.proofs.data_byte.Tie as tie
 
-add-byte-or-zero : tie.Need-add-byte-or-zero
-add-byte-or-zero c = search needs
+add-if1 : tie.Need-add-if1
+add-if1 c = search needs
+
+shared-slice-read-wide-window : tie.Need-shared-slice-read-wide-window
+shared-slice-read-wide-window c = search needs
+
+add-wide-window : tie.Need-add-wide-window
+add-wide-window c = search needs
+
+shared-slice-read-wide-window-2 : tie.Need-shared-slice-read-wide-window-2
+shared-slice-read-wide-window-2 c = search needs
+
+add-wide-window-2 : tie.Need-add-wide-window-2
+add-wide-window-2 c = search needs
+
+shared-slice-read-wide-window-3 : tie.Need-shared-slice-read-wide-window-3
+shared-slice-read-wide-window-3 c = search needs
+
+wide-window-requires : tie.Need-wide-window-requires
+wide-window-requires c κs = search needs
+
+together-requires : tie.Need-together-requires
+together-requires c κs = search needs
+
+returns : tie.Need-returns
+returns c =
+    let l = c .before .before .before .before .before .before in
+    let a = l .before .args in
+    c .together .ensures
+    ∙ data-read (now (a .image)) (a .place) _ _ _ (c .before .wide-window .result)
+    (l .shared-slice-known .given (a .place / 8) .fits) (l .shared-slice-known .given (a .place / 8 + 1) .fits) (l .shared-slice-known .given (a .place / 8 + 2) .fits)
+    refl refl refl (c .before .wide-window .ensures)
 
 byte-or-zero-requires : tie.Need-byte-or-zero-requires
 byte-or-zero-requires c κs = search needs
 
+add-byte-or-zero : tie.Need-add-byte-or-zero
+add-byte-or-zero c = search needs
+
 byte-or-zero-requires-2 : tie.Need-byte-or-zero-requires-2
 byte-or-zero-requires-2 c κs = search needs
 
-window-requires : tie.Need-window-requires
-window-requires c κs = search needs
+wide-window-requires-2 : tie.Need-wide-window-requires-2
+wide-window-requires-2 c κs = search needs
 
-add-byte-or-zero-2 : tie.Need-add-byte-or-zero-2
-add-byte-or-zero-2 c = search needs
+together-requires-2 : tie.Need-together-requires-2
+together-requires-2 c κs = search needs
 
-byte-or-zero-requires-3 : tie.Need-byte-or-zero-requires-3
-byte-or-zero-requires-3 c κs = search needs
-
-window-requires-2 : tie.Need-window-requires-2
-window-requires-2 c κs = search needs
-
-nibble-requires : tie.Need-nibble-requires
-nibble-requires c κs = search needs
-
-mul-result : tie.Need-mul-result
-mul-result c = search needs
-
-nibble-requires-2 : tie.Need-nibble-requires-2
-nibble-requires-2 c κs = search needs
-
-add-result : tie.Need-add-result
-add-result c = search needs
-
-returns : tie.Need-returns
-returns c =
+returns-2 : tie.Need-returns-2
+returns-2 c =
     let b = c .before .before in
-    let a = b .before .before .before .before .before .before .args in
-    ap₂ (λ (x y : ℕ). x * 16 + y) (c .before .nibble .ensures .0) (c .nibble2 .ensures .0)
-    ∙ data-read (now (a .image)) (a .place) (b .before .before .before .byte-or-zero2 .result) (b .before .before .before .before .byte-or-zero .result) (b .before .byte-or-zero3 .result)
-    (b .before .before .window .result) (b .window2 .result) (search needs) (search needs) (search needs)
-    (b .before .before .before .byte-or-zero2 .ensures) (b .before .before .before .before .byte-or-zero .ensures) (b .before .byte-or-zero3 .ensures)
-    (b .before .before .window .ensures) (b .window2 .ensures)
+    let a = b .before .before .before .before .args in
+    c .together2 .ensures
+    ∙ data-read (now (a .image)) (a .place) (b .before .byte-or-zero .result) (b .byte-or-zero2 .result) 0 (c .before .wide-window2 .result)
+    (omega arith) (omega arith) (omega arith)
+    (b .before .byte-or-zero .ensures) (b .byte-or-zero2 .ensures) (sym (List·getD-eq-default (now (a .image)) 0 (b .before .before .if1 .left)))
+    (c .before .wide-window2 .ensures)
 
 pub data-byte-spec : {M : Type 1} → statement M
 data-byte-spec =
     tie.close
     (tie.spec
-    add-byte-or-zero
+    add-if1
+    shared-slice-read-wide-window
+    add-wide-window
+    shared-slice-read-wide-window-2
+    add-wide-window-2
+    shared-slice-read-wide-window-3
+    wide-window-requires
+    together-requires
+    returns
     byte-or-zero-requires
+    add-byte-or-zero
     byte-or-zero-requires-2
-    window-requires
-    add-byte-or-zero-2
-    byte-or-zero-requires-3
-    window-requires-2
-    nibble-requires
-    mul-result
-    nibble-requires-2
-    add-result
-    returns)
+    wide-window-requires-2
+    together-requires-2
+    returns-2)

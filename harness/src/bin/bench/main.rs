@@ -7,6 +7,7 @@ use harness::reference::coding::{code, Mode};
 use harness::rng::Rng;
 use harness::station;
 use measure::{hidden, Case};
+use std::cell::RefCell;
 use std::process::Command;
 
 fn main() {
@@ -19,6 +20,7 @@ fn main() {
     edc(with_time);
     coding(with_time);
     data_byte(with_time);
+    format(with_time);
 }
 
 /// The first line that a program writes. Also under an emulator the program is the machine's own.
@@ -70,4 +72,19 @@ fn data_byte(with_time: bool) {
     };
     let (rattle, rust) = (station::data_byte, reference::coding::data_byte);
     Case { name: "data_byte, 1024 bytes", drive: &drive, rattle, rust, idle: |_, _| 0 }.report(with_time);
+}
+
+fn format(with_time: bool) {
+    type Format = fn(u32, u32, u32, &[u8], &[u8], &mut [u8]) -> u8;
+    // cylinder, sectors, data bytes of a sector, image bytes
+    let layouts = [(0, 26, 128, 10_416), (1, 26, 256, 20_832), (1, 15, 512, 20_832), (1, 8, 1_024, 20_832)];
+    for (layout, (cylinder, sectors, size, image)) in (0..).zip(layouts) {
+        let data = Rng::new(4).bytes(sectors * size);
+        let marks = vec![0xFB; sectors];
+        let image = RefCell::new(vec![0; image]); // one for all calls
+        let drive = |f: Format| assert_eq!(f(layout, cylinder, 0, &data, &marks, &mut image.borrow_mut()), 0);
+        let name = &format!("format, layout {layout}");
+        let (rattle, rust) = (station::format, reference::format::format);
+        Case { name, drive: &drive, rattle, rust, idle: |_, _, _, _, _, _| 0 }.report(with_time);
+    }
 }

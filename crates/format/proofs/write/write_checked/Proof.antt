@@ -1,13 +1,12 @@
--- `write_checked` meets its contract: what is left to code and to enter ends where the whole does.
-use Prim.Native.Nat.{_+_, _-_, _*_, _<_, _≤_}
+-- `write_checked` meets its contract: what is left to code ends where the whole does.
+use Prim.Native.Nat.{_+_, _-_, _*_, _≤_}
 use mathlib.Core.List.{[], _++_}
 use mathlib.Core.Path.{_≡_, refl, _∙_}
 use native.Mathlib.Nat.{add-zero}
-use lib.ListN.{length, drop}
 use denote.Ref.{now}
+use lib.ListN.{length, drop}
 use lib.Seq.{sets}
-use Rattle.edc.specs.Register.{bytesEntered, edcBytes}
-use Rattle.edc.proofs.Laws.{bytes-step}
+use Rattle.edc.specs.Register.{edcBytes}
 use Rattle.format.specs.Order.{image, bytes}
 use Rattle.format.proofs.Writing.{bytes-turn, checked-written, checked-bit}
 use borrow.Author.Needs.{needs}
@@ -15,23 +14,25 @@ use Rattle.format.proofs.write.write_checked.Statement.{statement}
 use Rattle.format.proofs.write.write_checked.Tie as tie
 
 abbrev Inv-loop : tie.InvT-loop
-Inv-loop mode contents area₀ at register₀ before₀ i₀ area register before i =
-    (i ≤ length contents) × (register < 65536) × (length area ≡ length area₀)
-    × (bytesEntered register₀ contents ≡ bytesEntered register (drop i contents))
-    × (sets area₀ at (image mode before₀ (bytes (contents ++ edcBytes (bytesEntered register₀ contents)) []))
-    ≡ sets area (at + 2 * i) (image mode before (bytes (drop i contents ++ edcBytes (bytesEntered register₀ contents)) [])))
+Inv-loop mode contents area₀ at register before₀ i₀ area before i =
+    (i ≤ length contents) × (length area ≡ length area₀)
+    × (sets area₀ at (image mode before₀ (bytes (contents ++ edcBytes register) []))
+    ≡ sets area (at + 2 * i) (image mode before (bytes (drop i contents ++ edcBytes register) [])))
 
 abbrev μ-loop : tie.MeasureT-loop
-μ-loop mode contents area₀ at register₀ before₀ i₀ area register before i = length contents - i
+μ-loop mode contents area₀ at register before₀ i₀ area before i = length contents - i
 
 register-after-requires : tie.Need-register-after-requires Inv-loop μ-loop
 register-after-requires c κs = search needs
+
+bytes-entered-requires : tie.Need-bytes-entered-requires Inv-loop μ-loop
+bytes-entered-requires c κs = search needs
 
 last-bit-requires : tie.Need-last-bit-requires Inv-loop μ-loop
 last-bit-requires c κs = search needs
 
 loop-holds : tie.Need-loop-holds Inv-loop μ-loop
-loop-holds c = (search needs, search needs, refl, refl, rw add-zero)
+loop-holds c = (search needs, refl, rw add-zero)
 
 shared-slice-read-byte : tie.Need-shared-slice-read-byte Inv-loop μ-loop
 shared-slice-read-byte c = search needs
@@ -48,9 +49,6 @@ coded-requires c κs = search needs
 write-pair-requires : tie.Need-write-pair-requires Inv-loop μ-loop
 write-pair-requires c κs = search needs
 
-byte-entered-requires : tie.Need-byte-entered-requires Inv-loop μ-loop
-byte-entered-requires c κs = search needs
-
 add-i : tie.Need-add-i Inv-loop μ-loop
 add-i c = search needs
 
@@ -59,14 +57,12 @@ loop-less c = search needs
 
 loop-again : tie.Need-loop-again Inv-loop μ-loop
 loop-again c =
-    let w = c .before .before .before in
+    let w = c .before .before in
     let n = w .before .before .before .before in
     let l = n .before in (
       search needs,
-      search needs,
-      w .write-pair .kept .0 ∙ l .loop .inv .2,
-      l .loop .inv .3 ∙ bytes-step _ _ _ _ (n .loop-test .taken) (c .byte-entered .ensures),
-      l .loop .inv .4 ∙ bytes-turn _ _ _ _ _ _ _ _ _ (n .loop-test .taken) (w .write-pair .ensures) (w .before .coded .ensures),
+      w .write-pair .kept .0 ∙ l .loop .inv .1,
+      l .loop .inv .2 ∙ bytes-turn _ _ _ _ _ _ _ _ _ (n .loop-test .taken) (w .write-pair .ensures) (w .before .coded .ensures),
     )
 
 cast-upper : tie.Need-cast-upper Inv-loop μ-loop
@@ -112,12 +108,12 @@ returns c =
     let n = v .before .before .before in
     let l = n .before in
     let s = l .before in
-    let a = s .before .before .before .before .args in (
-      checked-written (a .mode) (a .mark) (now (a .contents)) (now (a .area)) (l .loop .area) (a .at) (l .loop .i) (s .last-bit .result) (l .loop .before) (s .before .register-after .result) (l .loop .register)
-          (s .last-bit .ensures) (s .before .register-after .ensures) (l .loop .inv .3) (l .loop .inv .4) (n .loop-test .left)
-          _ _ _ _ (v .write-pair2 .ensures) (v .before .coded2 .ensures) (w .write-pair3 .ensures) (w .before .coded3 .ensures),
-      checked-bit (a .mode) (a .mark) (now (a .contents)) (now (a .area)) (l .loop .area) (a .at) (l .loop .i) (s .last-bit .result) (l .loop .before) (s .before .register-after .result) (l .loop .register)
-          (s .last-bit .ensures) (s .before .register-after .ensures) (l .loop .inv .3) (l .loop .inv .4) (n .loop-test .left),
+    let a = s .before .before .before .before .before .args in (
+      checked-written (a .mode) (a .mark) (now (a .contents)) (now (a .area)) (l .loop .area) (a .at) (l .loop .i) (s .last-bit .result) (l .loop .before) (s .before .before .register-after .result) (s .before .bytes-entered .result)
+      (s .last-bit .ensures) (s .before .before .register-after .ensures) (s .before .bytes-entered .ensures) (l .loop .inv .2) (n .loop-test .left)
+      _ _ _ _ (v .write-pair2 .ensures) (v .before .coded2 .ensures) (w .write-pair3 .ensures) (w .before .coded3 .ensures),
+      checked-bit (a .mode) (a .mark) (now (a .contents)) (now (a .area)) (l .loop .area) (a .at) (l .loop .i) (s .last-bit .result) (l .loop .before) (s .before .before .register-after .result) (s .before .bytes-entered .result)
+      (s .last-bit .ensures) (s .before .before .register-after .ensures) (s .before .bytes-entered .ensures) (l .loop .inv .2) (n .loop-test .left),
     )
 
 pub write-checked-spec : {M : Type 1} → statement M
@@ -127,6 +123,7 @@ write-checked-spec =
     Inv-loop
     μ-loop
     register-after-requires
+    bytes-entered-requires
     last-bit-requires
     loop-holds
     shared-slice-read-byte
@@ -134,7 +131,6 @@ write-checked-spec =
     add-write-pair
     coded-requires
     write-pair-requires
-    byte-entered-requires
     add-i
     loop-less
     loop-again
