@@ -118,21 +118,22 @@ unfolding registerAfter edcOf
 register-all mode mark xs = sym (bytes-append 65535 (covered mode mark) xs)
 
 -- The whole field, from where the loop over its bytes ended: r is its register.
-module _ (mode : Mode) (mark : Mark) (xs area₀ area : List ℕ) (at i before₀ before first r : ℕ)
-    (eb : before₀ ≡ markByte mark % 2) (er : first ≡ registerAfter mode mark) (entered : r ≡ bytesEntered first xs)
-    (stored : sets area₀ at (image mode before₀ (bytes (xs ++ edcBytes r) []))
-    ≡ sets area (at + 2 * i) (image mode before (bytes (drop i xs ++ edcBytes r) [])))
+module _ (mode : Mode) (mark : Mark) (xs area₀ area : List ℕ) (at i last₀ last first r : ℕ)
+    (eb : last₀ ≡ markByte mark % 2) (er : first ≡ registerAfter mode mark) (entered : r ≡ bytesEntered first xs)
+    (stored : sets area₀ at (image mode (last₀ % 2) (bytes (xs ++ edcBytes r) []))
+    ≡ sets area (at + 2 * i) (image mode (last % 2) (bytes (drop i xs ++ edcBytes r) [])))
     (past : length xs ≤ i) where
   register-done : edcOf (covered mode mark ++ xs) ≡ r
   register-done = sym (register-all mode mark xs) ∙ rw (← er) (sym entered)
 
   pub checked-written : (one two : List ℕ) (p q : Pair)
-      → one ≡ sets area (at + 2 * i) (p .first ∷ p .second ∷ []) → p ≡ codedByte mode before (r / 256)
+      → one ≡ sets area (at + 2 * i) (p .first ∷ p .second ∷ []) → p ≡ codedByte mode (last % 2) (r / 256)
       → two ≡ sets one (at + 2 * i + 2) (q .first ∷ q .second ∷ []) → q ≡ codedByte mode (r / 256 % 2) (r % 256)
       → two ≡ sets area₀ at (image mode (markByte mark % 2) (bytes (checked mode mark xs) []))
   unfolding checked
   checked-written one two p q e f g k =
-      sym (rw (register-done, ← eb) stored ∙ edc-stored area one two at i mode before r p q xs past e f g k)
+      let bit : last₀ % 2 ≡ markByte mark % 2 = omega arith in
+      sym (rw (register-done, ← bit) stored ∙ edc-stored area one two at i mode (last % 2) r p q xs past e f g k)
 
   pub checked-bit : r % 256 % 2 ≡ edcOf (covered mode mark ++ xs) % 2
   checked-bit = rw register-done (omega arith)

@@ -102,17 +102,17 @@ fn write_checked(mode: Mode, mark: Mark, contents: &[u8], area: &mut [u8], at: u
     ensures bit { λ r. ⌜ r ≡ edcOf (covered mode mark ++ now (contents .entry)) % 2 ⌝ }
 {
     let register = edc::bytes_entered(marks::register_after(mode, mark), contents);
-    let mut before = last_bit(mark);
+    let mut last = last_bit(mark);
     let mut i = 0;
     while i < contents.len() {
         let byte = contents[i];
-        write_pair(area, at + 2 * i, cells::coded(mode, before, byte));
-        before = byte % 2;
+        write_pair(area, at + 2 * i, cells::coded(mode, last % 2, byte));
+        last = byte;
         i += 1;
     }
     let upper = (register / 256) as u8;
     let lower = (register % 256) as u8;
-    write_pair(area, at + 2 * i, cells::coded(mode, before, upper));
+    write_pair(area, at + 2 * i, cells::coded(mode, last % 2, upper));
     write_pair(
         area,
         at + 2 * i + 2,

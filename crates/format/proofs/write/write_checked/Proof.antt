@@ -1,5 +1,5 @@
 -- `write_checked` meets its contract: what is left to code ends where the whole does.
-use Prim.Native.Nat.{_+_, _-_, _*_, _≤_}
+use Prim.Native.Nat.{_+_, _-_, _*_, _%_, _≤_}
 use mathlib.Core.List.{[], _++_}
 use mathlib.Core.Path.{_≡_, refl, _∙_}
 use native.Mathlib.Nat.{add-zero}
@@ -14,13 +14,13 @@ use Rattle.format.proofs.write.write_checked.Statement.{statement}
 use Rattle.format.proofs.write.write_checked.Tie as tie
 
 abbrev Inv-loop : tie.InvT-loop
-Inv-loop mode contents area₀ at register before₀ i₀ area before i =
+Inv-loop mode contents area₀ at register last₀ i₀ area last i =
     (i ≤ length contents) × (length area ≡ length area₀)
-    × (sets area₀ at (image mode before₀ (bytes (contents ++ edcBytes register) []))
-    ≡ sets area (at + 2 * i) (image mode before (bytes (drop i contents ++ edcBytes register) [])))
+    × (sets area₀ at (image mode (last₀ % 2) (bytes (contents ++ edcBytes register) []))
+    ≡ sets area (at + 2 * i) (image mode (last % 2) (bytes (drop i contents ++ edcBytes register) [])))
 
 abbrev μ-loop : tie.MeasureT-loop
-μ-loop mode contents area₀ at register before₀ i₀ area before i = length contents - i
+μ-loop mode contents area₀ at register last₀ i₀ area last i = length contents - i
 
 register-after-requires : tie.Need-register-after-requires Inv-loop μ-loop
 register-after-requires c κs = search needs
@@ -109,10 +109,10 @@ returns c =
     let l = n .before in
     let s = l .before in
     let a = s .before .before .before .before .before .args in (
-      checked-written (a .mode) (a .mark) (now (a .contents)) (now (a .area)) (l .loop .area) (a .at) (l .loop .i) (s .last-bit .result) (l .loop .before) (s .before .before .register-after .result) (s .before .bytes-entered .result)
+      checked-written (a .mode) (a .mark) (now (a .contents)) (now (a .area)) (l .loop .area) (a .at) (l .loop .i) (s .last-bit .result) (l .loop .last) (s .before .before .register-after .result) (s .before .bytes-entered .result)
       (s .last-bit .ensures) (s .before .before .register-after .ensures) (s .before .bytes-entered .ensures) (l .loop .inv .2) (n .loop-test .left)
       _ _ _ _ (v .write-pair2 .ensures) (v .before .coded2 .ensures) (w .write-pair3 .ensures) (w .before .coded3 .ensures),
-      checked-bit (a .mode) (a .mark) (now (a .contents)) (now (a .area)) (l .loop .area) (a .at) (l .loop .i) (s .last-bit .result) (l .loop .before) (s .before .before .register-after .result) (s .before .bytes-entered .result)
+      checked-bit (a .mode) (a .mark) (now (a .contents)) (now (a .area)) (l .loop .area) (a .at) (l .loop .i) (s .last-bit .result) (l .loop .last) (s .before .before .register-after .result) (s .before .bytes-entered .result)
       (s .last-bit .ensures) (s .before .before .register-after .ensures) (s .before .bytes-entered .ensures) (l .loop .inv .2) (n .loop-test .left),
     )
 
