@@ -88,10 +88,10 @@ pub fn data_byte(image: &[u8], place: usize) -> u8
 }
 
 // The sixteen cells of `byte` after the bit `before`. After a ONE the first clock cell of MFM is 0, whatever follows.
-fn sixteen(mode: Mode, before: u8, byte: u8) -> u32
+fn sixteen(mode: Mode, before: u8, byte: u8) -> u16
     ensures { λ r. ⌜ r ≡ high mode before byte * 256 + low mode byte ⌝ }
 {
-    let bits = byte as u32;
+    let bits = byte as u16;
     let nibbles = (bits | (bits << 4)) & 0x0F0F;
     let pairs = (nibbles | (nibbles << 2)) & 0x3333;
     let data = (pairs | (pairs << 1)) & 0x5555;

@@ -113,11 +113,7 @@ fn write_checked(mode: Mode, mark: Mark, contents: &[u8], area: &mut [u8], at: u
     let upper = (register / 256) as u8;
     let lower = (register % 256) as u8;
     write_pair(area, at + 2 * i, cells::coded(mode, last % 2, upper));
-    write_pair(
-        area,
-        at + 2 * i + 2,
-        cells::coded(mode, upper % 2, lower),
-    );
+    write_pair(area, at + 2 * i + 2, cells::coded(mode, upper % 2, lower));
     lower % 2
 }
 

@@ -104,24 +104,25 @@ pub fn stands(mode: Mode, mark: Mark, image: &[u8], place: usize) -> bool
     }
 }
 
-// The register of the EDC once the mark has entered it: what each EDC of a field begins with.
+// The register of the EDC once the mark has entered it: what each EDC of a field begins with. The proof computes each of them from the
+// mark's bytes.
 pub fn register_after(mode: Mode, mark: Mark) -> u16
     ensures { λ r. ⌜ IsRegisterAfter mode mark r ⌝ }
 {
     match mode {
         Mode::Fm => match mark {
-            Mark::Index => edc::edc(b"\xFC"),
-            Mark::Identifier => edc::edc(b"\xFE"),
-            Mark::Data => edc::edc(b"\xFB"),
-            Mark::Control => edc::edc(b"\xF8"),
-            Mark::Open => edc::edc(b"\xF9"),
+            Mark::Index => 0xCF63,
+            Mark::Identifier => 0xEF21,
+            Mark::Data => 0xBF84,
+            Mark::Control => 0x8FE7,
+            Mark::Open => 0x9FC6,
         },
         Mode::Mfm => match mark {
-            Mark::Index => edc::edc(b"\xC2\xC2\xC2\xFC"),
-            Mark::Identifier => edc::edc(b"\xA1\xA1\xA1\xFE"),
-            Mark::Data => edc::edc(b"\xA1\xA1\xA1\xFB"),
-            Mark::Control => edc::edc(b"\xA1\xA1\xA1\xF8"),
-            Mark::Open => edc::edc(b"\xA1\xA1\xA1\xF9"),
+            Mark::Index => 0xCC3E,
+            Mark::Identifier => 0xB230,
+            Mark::Data => 0xE295,
+            Mark::Control => 0xD2F6,
+            Mark::Open => 0xC2D7,
         },
     }
 }

@@ -21,7 +21,7 @@ joined mode a x = high mode a x * 256 + low mode x
 
 -- One step of setting the bits apart, as the code takes it.
 abbrev step : ℕ → ℕ → ℕ → ℕ
-step shift mask x = bitAnd (bitOr x (x * shift % 4294967296)) mask
+step shift mask x = bitAnd (bitOr x (x * shift % 65536)) mask
 
 abbrev apart : ℕ → ℕ
 apart x = step 2 0x5555 (step 4 0x3333 (step 16 0x0F0F x))
@@ -30,7 +30,7 @@ abbrev fm : ℕ → ℕ
 fm x = bitOr (apart x) 0xAAAA
 
 abbrev mfm : ℕ → ℕ
-mfm x = bitOr (apart x) (bitXor (bitAnd (bitOr (apart x * 2 % 4294967296) (apart x / 2)) 0xAAAA) 0xAAAA)
+mfm x = bitOr (apart x) (bitXor (bitAnd (bitOr (apart x * 2 % 65536) (apart x / 2)) 0xAAAA) 0xAAAA)
 
 fm-right : ℕ → Bool
 fm-right x = eqb (fm x) (joined Fm 0 x)

@@ -110,10 +110,10 @@ returns c =
     let s = l .before in
     let a = s .before .before .before .before .before .args in (
       checked-written (a .mode) (a .mark) (now (a .contents)) (now (a .area)) (l .loop .area) (a .at) (l .loop .i) (s .last-bit .result) (l .loop .last) (s .before .before .register-after .result) (s .before .bytes-entered .result)
-      (s .last-bit .ensures) (s .before .before .register-after .ensures) (s .before .bytes-entered .ensures) (l .loop .inv .2) (n .loop-test .left)
-      _ _ _ _ (v .write-pair2 .ensures) (v .before .coded2 .ensures) (w .write-pair3 .ensures) (w .before .coded3 .ensures),
+          (s .last-bit .ensures) (s .before .before .register-after .ensures) (s .before .bytes-entered .ensures) (l .loop .inv .2) (n .loop-test .left)
+          _ _ _ _ (v .write-pair2 .ensures) (v .before .coded2 .ensures) (w .write-pair3 .ensures) (w .before .coded3 .ensures),
       checked-bit (a .mode) (a .mark) (now (a .contents)) (now (a .area)) (l .loop .area) (a .at) (l .loop .i) (s .last-bit .result) (l .loop .last) (s .before .before .register-after .result) (s .before .bytes-entered .result)
-      (s .last-bit .ensures) (s .before .before .register-after .ensures) (s .before .bytes-entered .ensures) (l .loop .inv .2) (n .loop-test .left),
+          (s .last-bit .ensures) (s .before .before .register-after .ensures) (s .before .bytes-entered .ensures) (l .loop .inv .2) (n .loop-test .left),
     )
 
 pub write-checked-spec : {M : Type 1} → statement M
