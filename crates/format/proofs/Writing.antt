@@ -126,17 +126,18 @@ module _ (mode : Mode) (mark : Mark) (xs area₀ area : List ℕ) (at i last₀ 
   register-done : edcOf (covered mode mark ++ xs) ≡ r
   register-done = sym (register-all mode mark xs) ∙ rw (← er) (sym entered)
 
-  pub checked-written : (one two : List ℕ) (p q : Pair)
+  -- What is stored, and the EDC's last bit.
+  pub checked-done : (one two : List ℕ) (p q : Pair)
       → one ≡ sets area (at + 2 * i) (p .first ∷ p .second ∷ []) → p ≡ codedByte mode (last % 2) (r / 256)
       → two ≡ sets one (at + 2 * i + 2) (q .first ∷ q .second ∷ []) → q ≡ codedByte mode (r / 256 % 2) (r % 256)
-      → two ≡ sets area₀ at (image mode (markByte mark % 2) (bytes (checked mode mark xs) []))
+      → (two ≡ sets area₀ at (image mode (markByte mark % 2) (bytes (checked mode mark xs) [])))
+      × (r % 256 % 2 ≡ edcOf (covered mode mark ++ xs) % 2)
   unfolding checked
-  checked-written one two p q e f g k =
-      let bit : last₀ % 2 ≡ markByte mark % 2 = omega arith in
-      sym (rw (register-done, ← bit) stored ∙ edc-stored area one two at i mode (last % 2) r p q xs past e f g k)
-
-  pub checked-bit : r % 256 % 2 ≡ edcOf (covered mode mark ++ xs) % 2
-  checked-bit = rw register-done (omega arith)
+  checked-done one two p q e f g k =
+      let bit : last₀ % 2 ≡ markByte mark % 2 = omega arith in (
+        sym (rw (register-done, ← bit) stored ∙ edc-stored area one two at i mode (last % 2) r p q xs past e f g k),
+        rw register-done (omega arith),
+      )
 
 -- A turn of the copy.
 pub copy-turn : (area bs : List ℕ) (at i : ℕ) → i < length bs

@@ -8,7 +8,7 @@ use lib.ListN.{length, drop}
 use lib.Seq.{sets}
 use Rattle.edc.specs.Register.{edcBytes}
 use Rattle.format.specs.Order.{image, bytes}
-use Rattle.format.proofs.Writing.{bytes-turn, checked-written, checked-bit}
+use Rattle.format.proofs.Writing.{bytes-turn, checked-done}
 use borrow.Author.Needs.{needs}
 use Rattle.format.proofs.write.write_checked.Statement.{statement}
 use Rattle.format.proofs.write.write_checked.Tie as tie
@@ -108,13 +108,11 @@ returns c =
     let n = v .before .before .before in
     let l = n .before in
     let s = l .before in
-    let a = s .before .before .before .before .before .args in (
-      checked-written (a .mode) (a .mark) (now (a .contents)) (now (a .area)) (l .loop .area) (a .at) (l .loop .i) (s .last-bit .result) (l .loop .last) (s .before .before .register-after .result) (s .before .bytes-entered .result)
-          (s .last-bit .ensures) (s .before .before .register-after .ensures) (s .before .bytes-entered .ensures) (l .loop .inv .2) (n .loop-test .left)
-          _ _ _ _ (v .write-pair2 .ensures) (v .before .coded2 .ensures) (w .write-pair3 .ensures) (w .before .coded3 .ensures),
-      checked-bit (a .mode) (a .mark) (now (a .contents)) (now (a .area)) (l .loop .area) (a .at) (l .loop .i) (s .last-bit .result) (l .loop .last) (s .before .before .register-after .result) (s .before .bytes-entered .result)
-          (s .last-bit .ensures) (s .before .before .register-after .ensures) (s .before .bytes-entered .ensures) (l .loop .inv .2) (n .loop-test .left),
-    )
+    let a = s .before .before .before .before .before .args in
+    checked-done (a .mode) (a .mark) (now (a .contents)) (now (a .area)) (l .loop .area) (a .at) (l .loop .i) (s .last-bit .result) (l .loop .last)
+    (s .before .before .register-after .result) (s .before .bytes-entered .result) (s .last-bit .ensures) (s .before .before .register-after .ensures)
+    (s .before .bytes-entered .ensures) (l .loop .inv .2) (n .loop-test .left)
+    _ _ _ _ (v .write-pair2 .ensures) (v .before .coded2 .ensures) (w .write-pair3 .ensures) (w .before .coded3 .ensures)
 
 pub write-checked-spec : {M : Type 1} → statement M
 write-checked-spec =
