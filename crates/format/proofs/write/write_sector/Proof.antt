@@ -1,13 +1,24 @@
 -- `write_sector` meets its contract: identifier, gap, block and gap, one behind the other, fill the stretch.
-use mathlib.Core.Path.{ap}
-use Prim.Native.Nat.{ℕ, _%_}
+use mathlib.Core.Path.{_≡_, ap}
+use Prim.Native.Nat.{ℕ, _+_, _*_, _%_, _<_, _≤_}
 use native.Mathlib.Omega.{arith}
 use denote.Ref.{now}
 use Rattle.format.proofs.Fields.{sector-stored}
-use Rattle.layouts.specs.Layouts.{sectorFields}
+use lib.ListN.{length}
+use Rattle.layouts.specs.Layouts.{markBytes, sectorFields}
 use borrow.Author.Needs.{needs}
 use Rattle.format.proofs.write.write_sector.Statement.{statement}
 use Rattle.format.proofs.write.write_sector.Tie as tie
+
+-- The fields fill the stretch: what the sums and the places below rest on.
+fits : (w : tie.After-mark-width)
+    → (2 * (w .before .before .before .before .args .layout .sync + 6) + w .mark-width .result + 2 * w .before .before .before .before .args .layout .«identifier_gap»
+    + 2 * (w .before .before .before .before .args .layout .sync + length (now (w .before .before .before .before .args .contents)) + 2) + w .mark-width .result
+    + 2 * w .before .before .before .before .args .layout .«block_gap» ≡ length (now (w .before .before .before .before .args .stretch)))
+    × (w .mark-width .result ≡ 2 * markBytes (w .before .before .before .before .args .layout .mode)) × (1 ≤ length (now (w .before .before .before .before .args .contents)))
+    × (length (now (w .before .before .before .before .args .stretch)) < 18446744073709551616)
+unfolding sectorFields
+fits w = omega (arith, w .before .before .before .before .pre, w .before .before .before .before .good, w .mark-width .ensures)
 
 gap-byte-requires : tie.Need-gap-byte-requires
 gap-byte-requires c κs = search needs
@@ -19,60 +30,46 @@ slice-aggregate-write-block : tie.Need-slice-aggregate-write-block
 slice-aggregate-write-block c = search needs
 
 write-block-requires : tie.Need-write-block-requires
-unfolding sectorFields
-write-block-requires c κs = omega (arith, c .before .before .before .before .before .before .pre, c .before .before .before .before .before .before .good, c .before .before .before .before .before .before .fits, c .before .before .mark-width)
+write-block-requires c κs = omega (arith, fits (c .before .before))
 
 add-gap-at : tie.Need-add-gap-at
-unfolding sectorFields
-add-gap-at c = omega (arith, c .before .before .before .before .before .before .before .before .before .before .pre, c .before .before .before .before .before .before .before .before .before .before .good, c .before .before .before .before .before .before .before .before .before .before .fits, c .before .before .before .before .before .before .mark-width, c .before .before .before .write-block .kept .1 .1 .1 .1 .1 .0)
+add-gap-at c = omega (arith, fits (c .before .before .before .before .before .before))
 
 mul-gap-at : tie.Need-mul-gap-at
-unfolding sectorFields
-mul-gap-at c = omega (arith, c .before .before .before .before .before .before .before .before .before .before .pre, c .before .before .before .before .before .before .before .before .before .before .good, c .before .before .before .before .before .before .before .before .before .before .fits, c .before .before .before .before .before .before .mark-width, c .before .before .before .write-block .kept .1 .1 .1 .1 .1 .0)
+mul-gap-at c = omega (arith, fits (c .before .before .before .before .before .before))
 
 add-gap-at-2 : tie.Need-add-gap-at-2
-unfolding sectorFields
-add-gap-at-2 c = omega (arith, c .before .before .before .before .before .before .before .before .before .before .pre, c .before .before .before .before .before .before .before .before .before .before .good, c .before .before .before .before .before .before .before .before .before .before .fits, c .before .before .before .before .before .before .mark-width, c .before .before .before .write-block .kept .1 .1 .1 .1 .1 .0)
+add-gap-at-2 c = omega (arith, fits (c .before .before .before .before .before .before))
 
 write-run-requires : tie.Need-write-run-requires
-unfolding sectorFields
-write-run-requires c κs = omega (arith, c .before .before .before .before .before .before .before .before .before .before .before .pre, c .before .before .before .before .before .before .before .before .before .before .before .good, c .before .before .before .before .before .before .before .before .before .before .before .fits, c .before .before .before .before .before .before .before .mark-width, c .before .before .before .before .write-block .kept .1 .1 .1 .1 .1 .0)
+write-run-requires c κs = omega (arith, fits (c .before .before .before .before .before .before .before), c .before .before .before .before .write-block .kept .1 .1 .1 .1 .1 .0)
 
 mul-block-at : tie.Need-mul-block-at
-unfolding sectorFields
-mul-block-at c = omega (arith, c .before .before .before .before .before .before .before .before .before .before .before .before .before .before .before .pre, c .before .before .before .before .before .before .before .before .before .before .before .before .before .before .before .good, c .before .before .before .before .before .before .before .before .before .before .before .before .before .before .before .fits, c .before .before .before .before .before .before .before .before .before .before .before .mark-width, c .before .before .before .before .before .before .before .before .write-block .kept .1 .1 .1 .1 .1 .0, c .before .before .before .write-run .kept .1 .1 .1 .1 .0)
+mul-block-at c = omega (arith, fits (c .before .before .before .before .before .before .before .before .before .before .before))
 
 add-block-at : tie.Need-add-block-at
-unfolding sectorFields
-add-block-at c = omega (arith, c .before .before .before .before .before .before .before .before .before .before .before .before .before .before .before .pre, c .before .before .before .before .before .before .before .before .before .before .before .before .before .before .before .good, c .before .before .before .before .before .before .before .before .before .before .before .before .before .before .before .fits, c .before .before .before .before .before .before .before .before .before .before .before .mark-width, c .before .before .before .before .before .before .before .before .write-block .kept .1 .1 .1 .1 .1 .0, c .before .before .before .write-run .kept .1 .1 .1 .1 .0)
+add-block-at c = omega (arith, fits (c .before .before .before .before .before .before .before .before .before .before .before))
 
 write-block-requires-2 : tie.Need-write-block-requires-2
-unfolding sectorFields
-write-block-requires-2 c κs = omega (arith, c .before .before .before .before .before .before .before .before .before .before .before .before .before .before .before .before .pre, c .before .before .before .before .before .before .before .before .before .before .before .before .before .before .before .before .good, c .before .before .before .before .before .before .before .before .before .before .before .before .before .before .before .before .fits, c .before .before .before .before .before .before .before .before .before .before .before .before .mark-width, c .before .before .before .before .before .before .before .before .before .write-block .kept .1 .1 .1 .1 .1 .0, c .before .before .before .before .write-run .kept .1 .1 .1 .1 .0)
+write-block-requires-2 c κs = omega (arith, fits (c .before .before .before .before .before .before .before .before .before .before .before .before), c .before .before .before .before .before .before .before .before .before .write-block .kept .1 .1 .1 .1 .1 .0, c .before .before .before .before .write-run .kept .1 .1 .1 .1 .0)
 
 add-end : tie.Need-add-end
-unfolding sectorFields
-add-end c = omega (arith, c .before .before .before .before .before .before .before .before .before .before .before .before .before .before .before .before .before .before .before .before .pre, c .before .before .before .before .before .before .before .before .before .before .before .before .before .before .before .before .before .before .before .before .good, c .before .before .before .before .before .before .before .before .before .before .before .before .before .before .before .before .before .before .before .before .fits, c .before .before .before .before .before .before .before .before .before .before .before .before .before .before .before .before .mark-width, c .before .before .before .before .before .before .before .before .before .before .before .before .before .write-block .kept .1 .1 .1 .1 .1 .0, c .before .before .before .before .before .before .before .before .write-run .kept .1 .1 .1 .1 .0, c .before .before .before .write-block2 .kept .1 .1 .1 .1 .1 .0)
+add-end c = omega (arith, fits (c .before .before .before .before .before .before .before .before .before .before .before .before .before .before .before .before))
 
 add-end-2 : tie.Need-add-end-2
-unfolding sectorFields
-add-end-2 c = omega (arith, c .before .before .before .before .before .before .before .before .before .before .before .before .before .before .before .before .before .before .before .before .pre, c .before .before .before .before .before .before .before .before .before .before .before .before .before .before .before .before .before .before .before .before .good, c .before .before .before .before .before .before .before .before .before .before .before .before .before .before .before .before .before .before .before .before .fits, c .before .before .before .before .before .before .before .before .before .before .before .before .before .before .before .before .mark-width, c .before .before .before .before .before .before .before .before .before .before .before .before .before .write-block .kept .1 .1 .1 .1 .1 .0, c .before .before .before .before .before .before .before .before .write-run .kept .1 .1 .1 .1 .0, c .before .before .before .write-block2 .kept .1 .1 .1 .1 .1 .0)
+add-end-2 c = omega (arith, fits (c .before .before .before .before .before .before .before .before .before .before .before .before .before .before .before .before))
 
 mul-end : tie.Need-mul-end
-unfolding sectorFields
-mul-end c = omega (arith, c .before .before .before .before .before .before .before .before .before .before .before .before .before .before .before .before .before .before .before .before .pre, c .before .before .before .before .before .before .before .before .before .before .before .before .before .before .before .before .before .before .before .before .good, c .before .before .before .before .before .before .before .before .before .before .before .before .before .before .before .before .before .before .before .before .fits, c .before .before .before .before .before .before .before .before .before .before .before .before .before .before .before .before .mark-width, c .before .before .before .before .before .before .before .before .before .before .before .before .before .write-block .kept .1 .1 .1 .1 .1 .0, c .before .before .before .before .before .before .before .before .write-run .kept .1 .1 .1 .1 .0, c .before .before .before .write-block2 .kept .1 .1 .1 .1 .1 .0)
+mul-end c = omega (arith, fits (c .before .before .before .before .before .before .before .before .before .before .before .before .before .before .before .before))
 
 add-end-3 : tie.Need-add-end-3
-unfolding sectorFields
-add-end-3 c = omega (arith, c .before .before .before .before .before .before .before .before .before .before .before .before .before .before .before .before .before .before .before .before .pre, c .before .before .before .before .before .before .before .before .before .before .before .before .before .before .before .before .before .before .before .before .good, c .before .before .before .before .before .before .before .before .before .before .before .before .before .before .before .before .before .before .before .before .fits, c .before .before .before .before .before .before .before .before .before .before .before .before .before .before .before .before .mark-width, c .before .before .before .before .before .before .before .before .before .before .before .before .before .write-block .kept .1 .1 .1 .1 .1 .0, c .before .before .before .before .before .before .before .before .write-run .kept .1 .1 .1 .1 .0, c .before .before .before .write-block2 .kept .1 .1 .1 .1 .1 .0)
+add-end-3 c = omega (arith, fits (c .before .before .before .before .before .before .before .before .before .before .before .before .before .before .before .before))
 
 add-end-4 : tie.Need-add-end-4
-unfolding sectorFields
-add-end-4 c = omega (arith, c .before .before .before .before .before .before .before .before .before .before .before .before .before .before .before .before .before .before .before .before .pre, c .before .before .before .before .before .before .before .before .before .before .before .before .before .before .before .before .before .before .before .before .good, c .before .before .before .before .before .before .before .before .before .before .before .before .before .before .before .before .before .before .before .before .fits, c .before .before .before .before .before .before .before .before .before .before .before .before .before .before .before .before .mark-width, c .before .before .before .before .before .before .before .before .before .before .before .before .before .write-block .kept .1 .1 .1 .1 .1 .0, c .before .before .before .before .before .before .before .before .write-run .kept .1 .1 .1 .1 .0, c .before .before .before .write-block2 .kept .1 .1 .1 .1 .1 .0)
+add-end-4 c = omega (arith, fits (c .before .before .before .before .before .before .before .before .before .before .before .before .before .before .before .before))
 
 write-run-requires-2 : tie.Need-write-run-requires-2
-unfolding sectorFields
-write-run-requires-2 c κs = omega (arith, c .before .before .before .before .before .before .before .before .before .before .before .before .before .before .before .before .before .before .before .before .before .pre, c .before .before .before .before .before .before .before .before .before .before .before .before .before .before .before .before .before .before .before .before .before .good, c .before .before .before .before .before .before .before .before .before .before .before .before .before .before .before .before .before .before .before .before .before .fits, c .before .before .before .before .before .before .before .before .before .before .before .before .before .before .before .before .before .mark-width, c .before .before .before .before .before .before .before .before .before .before .before .before .before .before .write-block .kept .1 .1 .1 .1 .1 .0, c .before .before .before .before .before .before .before .before .before .write-run .kept .1 .1 .1 .1 .0, c .before .before .before .before .write-block2 .kept .1 .1 .1 .1 .1 .0)
+write-run-requires-2 c κs = omega (arith, fits (c .before .before .before .before .before .before .before .before .before .before .before .before .before .before .before .before .before), c .before .before .before .before .before .before .before .before .before .before .before .before .before .before .write-block .kept .1 .1 .1 .1 .1 .0, c .before .before .before .before .before .before .before .before .before .write-run .kept .1 .1 .1 .1 .0, c .before .before .before .before .write-block2 .kept .1 .1 .1 .1 .1 .0)
 
 same-length : tie.Need-same-length
 same-length c = search needs
