@@ -1,5 +1,5 @@
 -- `write_track` meets its contract: what is left to write from sector i + 1 on ends where the whole track does.
-use Prim.Native.Nat.{ℕ, _+_, _-_, _*_, _≤_}
+use Prim.Native.Nat.{ℕ, _+_, _-_, _*_, _<_, _≤_}
 use mathlib.Core.Path.{_≡_, refl, sym, ap, _∙_}
 use native.Mathlib.Omega.{arith}
 use borrow.Author.Needs.{needs}
@@ -8,6 +8,7 @@ use native.Mathlib.Nat.{sub-zero, zero-add}
 use denote.Ref.{now}
 use lib.ListN.{length}
 use lib.Seq.{sets}
+use Rattle.layouts.specs.Layouts.{sectorFields}
 use Rattle.format.specs.Order.{numbers}
 use Rattle.format.proofs.Parts.{leader, stretches}
 use Rattle.format.proofs.Turns.{left-step, left-none, next, fields-whole, fields-room, sector-room, sectors-turn, track-done}
@@ -24,6 +25,27 @@ Inv-loop layout cylinder side contents marks image₀ mode gap stretch size star
 abbrev μ-loop : tie.MeasureT-loop
 μ-loop layout cylinder side contents marks image₀ mode gap stretch size start₀ from₀ i₀ image start from i =
     layout .sectors - i
+
+-- What a turn has left: the stretch and the slot lie within what there is.
+left : (t : tie.Then1 Inv-loop μ-loop)
+    → (t .before .before .loop .start + 2 * t .before .before .before .before .before .before .sector-fields .result
+    + ((t .before .before .before .before .before .before .before .before .before .before .before .before .before .before .before .args .layout .sectors - (t .before .before .loop .i + 1)) * (2 * t .before .before .before .before .before .before .sector-fields .result) + 2 * t .before .before .before .before .before .before .before .before .before .before .before .before .before .before .before .args .layout .«track_gap») ≡ length (t .before .before .loop .image))
+    × (t .before .before .loop .from + t .before .before .before .before .before .before .before .before .before .before .before .before .before .before .before .args .layout .size + (t .before .before .before .before .before .before .before .before .before .before .before .before .before .before .before .args .layout .sectors - (t .before .before .loop .i + 1)) * t .before .before .before .before .before .before .before .before .before .before .before .before .before .before .before .args .layout .size ≡ length (now (t .before .before .before .before .before .before .before .before .before .before .before .before .before .before .before .args .contents)))
+    × (length (t .before .before .loop .image) < 18446744073709551616) × (length (now (t .before .before .before .before .before .before .before .before .before .before .before .before .before .before .before .args .contents)) < 18446744073709551616)
+    × (t .before .before .loop .i < length (now (t .before .before .before .before .before .before .before .before .before .before .before .before .before .before .before .args .marks))) × (length (now (t .before .before .before .before .before .before .before .before .before .before .before .before .before .before .before .args .marks)) ≤ 255)
+    × (t .before .before .before .before .before .before .sector-fields .result ≡ sectorFields (t .before .before .before .before .before .before .before .before .before .before .before .before .before .before .before .args .layout)) × (1 ≤ t .before .before .before .before .before .before .before .before .before .before .before .before .before .before .before .args .layout .size) × (1 ≤ t .before .before .before .before .before .before .before .before .before .before .before .before .before .before .before .args .layout .«identifier_gap»)
+left t =
+    let s = t .before .before .before .before .before .before .before .before .before .before .before .before .before .before .before in
+    omega (
+      arith,
+      left-step (s .args .layout .sectors) (t .before .before .loop .i) (2 * t .before .before .before .before .before .before .sector-fields .result) (t .if1 .taken),
+      left-step (s .args .layout .sectors) (t .before .before .loop .i) (s .args .layout .size) (t .if1 .taken),
+      t .before .before .loop .inv,
+      s .pre,
+      s .good,
+      t .before .before .before .before .before .before .sector-fields .ensures,
+      t .before .before .before .before .before .before .before .before .before .write-leader .kept .1 .0,
+    )
 
 gap-byte-requires : tie.Need-gap-byte-requires Inv-loop μ-loop
 gap-byte-requires c κs = search needs
@@ -65,49 +87,49 @@ loop-holds c =
     )
 
 add-end : tie.Need-add-end Inv-loop μ-loop
-add-end c = omega (arith, left-step (c .before .before .before .before .before .before .before .before .before .before .before .before .before .before .before .args .layout .sectors) (c .before .before .loop .i) (2 * c .before .before .before .before .before .before .sector-fields .result) (c .if1 .taken), left-step (c .before .before .before .before .before .before .before .before .before .before .before .before .before .before .before .args .layout .sectors) (c .before .before .loop .i) (c .before .before .before .before .before .before .before .before .before .before .before .before .before .before .before .args .layout .size) (c .if1 .taken), c .before .before .loop .inv, c .before .before .before .before .before .before .before .before .before .before .before .before .before .before .before .pre, c .before .before .before .before .before .before .before .before .before .before .before .before .before .before .before .good, c .before .before .before .before .before .before .sector-fields .ensures)
+add-end c = omega (arith, left c)
 
 add-to : tie.Need-add-to Inv-loop μ-loop
-add-to c = omega (arith, left-step (c .before .before .before .before .before .before .before .before .before .before .before .before .before .before .before .args .layout .sectors) (c .before .before .loop .i) (2 * c .before .before .before .before .before .before .sector-fields .result) (c .if1 .taken), left-step (c .before .before .before .before .before .before .before .before .before .before .before .before .before .before .before .args .layout .sectors) (c .before .before .loop .i) (c .before .before .before .before .before .before .before .before .before .before .before .before .before .before .before .args .layout .size) (c .if1 .taken), c .before .before .loop .inv, c .before .before .before .before .before .before .before .before .before .before .before .before .before .before .before .pre, c .before .before .before .before .before .before .before .before .before .before .before .before .before .before .before .good, c .before .before .before .before .before .before .sector-fields .ensures)
+add-to c = omega (arith, left c)
 
 shared-slice-read-mark-of : tie.Need-shared-slice-read-mark-of Inv-loop μ-loop
-shared-slice-read-mark-of c = omega (arith, left-step (c .before .before .before .before .before .before .before .before .before .before .before .before .before .before .before .before .args .layout .sectors) (c .before .before .before .loop .i) (2 * c .before .before .before .before .before .before .before .sector-fields .result) (c .before .if1 .taken), left-step (c .before .before .before .before .before .before .before .before .before .before .before .before .before .before .before .before .args .layout .sectors) (c .before .before .before .loop .i) (c .before .before .before .before .before .before .before .before .before .before .before .before .before .before .before .before .args .layout .size) (c .before .if1 .taken), c .before .before .before .loop .inv, c .before .before .before .before .before .before .before .before .before .before .before .before .before .before .before .before .pre, c .before .before .before .before .before .before .before .before .before .before .before .before .before .before .before .before .good, c .before .before .before .before .before .before .before .sector-fields .ensures)
+shared-slice-read-mark-of c = omega (arith, left (c .before))
 
 mark-of-requires : tie.Need-mark-of-requires Inv-loop μ-loop
 mark-of-requires c κs = search needs
 
 add-number : tie.Need-add-number Inv-loop μ-loop
-add-number c = omega (arith, left-step (c .before .before .before .before .before .before .before .before .before .before .before .before .before .before .before .before .before .args .layout .sectors) (c .before .before .before .before .loop .i) (2 * c .before .before .before .before .before .before .before .before .sector-fields .result) (c .before .before .if1 .taken), left-step (c .before .before .before .before .before .before .before .before .before .before .before .before .before .before .before .before .before .args .layout .sectors) (c .before .before .before .before .loop .i) (c .before .before .before .before .before .before .before .before .before .before .before .before .before .before .before .before .before .args .layout .size) (c .before .before .if1 .taken), c .before .before .before .before .loop .inv, c .before .before .before .before .before .before .before .before .before .before .before .before .before .before .before .before .before .pre, c .before .before .before .before .before .before .before .before .before .before .before .before .before .before .before .before .before .good, c .before .before .before .before .before .before .before .before .sector-fields .ensures)
+add-number c = omega (arith, left (c .before .before))
 
 cast-number : tie.Need-cast-number Inv-loop μ-loop
-cast-number c = omega (arith, left-step (c .before .before .before .before .before .before .before .before .before .before .before .before .before .before .before .before .before .args .layout .sectors) (c .before .before .before .before .loop .i) (2 * c .before .before .before .before .before .before .before .before .sector-fields .result) (c .before .before .if1 .taken), left-step (c .before .before .before .before .before .before .before .before .before .before .before .before .before .before .before .before .before .args .layout .sectors) (c .before .before .before .before .loop .i) (c .before .before .before .before .before .before .before .before .before .before .before .before .before .before .before .before .before .args .layout .size) (c .before .before .if1 .taken), c .before .before .before .before .loop .inv, c .before .before .before .before .before .before .before .before .before .before .before .before .before .before .before .before .before .pre, c .before .before .before .before .before .before .before .before .before .before .before .before .before .before .before .before .before .good, c .before .before .before .before .before .before .before .before .sector-fields .ensures)
+cast-number c = omega (arith, left (c .before .before))
 
 sub-write-sector : tie.Need-sub-write-sector Inv-loop μ-loop
-sub-write-sector c = omega (arith, left-step (c .before .before .before .before .before .before .before .before .before .before .before .before .before .before .before .before .before .args .layout .sectors) (c .before .before .before .before .loop .i) (2 * c .before .before .before .before .before .before .before .before .sector-fields .result) (c .before .before .if1 .taken), left-step (c .before .before .before .before .before .before .before .before .before .before .before .before .before .before .before .before .before .args .layout .sectors) (c .before .before .before .before .loop .i) (c .before .before .before .before .before .before .before .before .before .before .before .before .before .before .before .before .before .args .layout .size) (c .before .before .if1 .taken), c .before .before .before .before .loop .inv, c .before .before .before .before .before .before .before .before .before .before .before .before .before .before .before .before .before .pre, c .before .before .before .before .before .before .before .before .before .before .before .before .before .before .before .before .before .good, c .before .before .before .before .before .before .before .before .sector-fields .ensures)
+sub-write-sector c = omega (arith, left (c .before .before))
 
 part-write-sector-start : tie.Need-part-write-sector-start Inv-loop μ-loop
-part-write-sector-start c = omega (arith, left-step (c .before .before .before .before .before .before .before .before .before .before .before .before .before .before .before .before .before .args .layout .sectors) (c .before .before .before .before .loop .i) (2 * c .before .before .before .before .before .before .before .before .sector-fields .result) (c .before .before .if1 .taken), left-step (c .before .before .before .before .before .before .before .before .before .before .before .before .before .before .before .before .before .args .layout .sectors) (c .before .before .before .before .loop .i) (c .before .before .before .before .before .before .before .before .before .before .before .before .before .before .before .before .before .args .layout .size) (c .before .before .if1 .taken), c .before .before .before .before .loop .inv, c .before .before .before .before .before .before .before .before .before .before .before .before .before .before .before .before .before .pre, c .before .before .before .before .before .before .before .before .before .before .before .before .before .before .before .before .before .good, c .before .before .before .before .before .before .before .before .sector-fields .ensures)
+part-write-sector-start c = omega (arith, left (c .before .before))
 
 part-write-sector-end : tie.Need-part-write-sector-end Inv-loop μ-loop
-part-write-sector-end c = omega (arith, left-step (c .before .before .before .before .before .before .before .before .before .before .before .before .before .before .before .before .before .args .layout .sectors) (c .before .before .before .before .loop .i) (2 * c .before .before .before .before .before .before .before .before .sector-fields .result) (c .before .before .if1 .taken), left-step (c .before .before .before .before .before .before .before .before .before .before .before .before .before .before .before .before .before .args .layout .sectors) (c .before .before .before .before .loop .i) (c .before .before .before .before .before .before .before .before .before .before .before .before .before .before .before .before .before .args .layout .size) (c .before .before .if1 .taken), c .before .before .before .before .loop .inv, c .before .before .before .before .before .before .before .before .before .before .before .before .before .before .before .before .before .pre, c .before .before .before .before .before .before .before .before .before .before .before .before .before .before .before .before .before .good, c .before .before .before .before .before .before .before .before .sector-fields .ensures)
+part-write-sector-end c = omega (arith, left (c .before .before))
 
 sub-write-sector-2 : tie.Need-sub-write-sector-2 Inv-loop μ-loop
-sub-write-sector-2 c = omega (arith, left-step (c .before .before .before .before .before .before .before .before .before .before .before .before .before .before .before .before .before .before .args .layout .sectors) (c .before .before .before .before .before .loop .i) (2 * c .before .before .before .before .before .before .before .before .before .sector-fields .result) (c .before .before .before .if1 .taken), left-step (c .before .before .before .before .before .before .before .before .before .before .before .before .before .before .before .before .before .before .args .layout .sectors) (c .before .before .before .before .before .loop .i) (c .before .before .before .before .before .before .before .before .before .before .before .before .before .before .before .before .before .before .args .layout .size) (c .before .before .before .if1 .taken), c .before .before .before .before .before .loop .inv, c .before .before .before .before .before .before .before .before .before .before .before .before .before .before .before .before .before .before .pre, c .before .before .before .before .before .before .before .before .before .before .before .before .before .before .before .before .before .before .good, c .before .before .before .before .before .before .before .before .before .sector-fields .ensures)
+sub-write-sector-2 c = omega (arith, left (c .before .before .before))
 
 part-write-sector-start-2 : tie.Need-part-write-sector-start-2 Inv-loop μ-loop
-part-write-sector-start-2 c = omega (arith, left-step (c .before .before .before .before .before .before .before .before .before .before .before .before .before .before .before .before .before .before .args .layout .sectors) (c .before .before .before .before .before .loop .i) (2 * c .before .before .before .before .before .before .before .before .before .sector-fields .result) (c .before .before .before .if1 .taken), left-step (c .before .before .before .before .before .before .before .before .before .before .before .before .before .before .before .before .before .before .args .layout .sectors) (c .before .before .before .before .before .loop .i) (c .before .before .before .before .before .before .before .before .before .before .before .before .before .before .before .before .before .before .args .layout .size) (c .before .before .before .if1 .taken), c .before .before .before .before .before .loop .inv, c .before .before .before .before .before .before .before .before .before .before .before .before .before .before .before .before .before .before .pre, c .before .before .before .before .before .before .before .before .before .before .before .before .before .before .before .before .before .before .good, c .before .before .before .before .before .before .before .before .before .sector-fields .ensures)
+part-write-sector-start-2 c = omega (arith, left (c .before .before .before))
 
 part-write-sector-end-2 : tie.Need-part-write-sector-end-2 Inv-loop μ-loop
-part-write-sector-end-2 c = omega (arith, left-step (c .before .before .before .before .before .before .before .before .before .before .before .before .before .before .before .before .before .before .args .layout .sectors) (c .before .before .before .before .before .loop .i) (2 * c .before .before .before .before .before .before .before .before .before .sector-fields .result) (c .before .before .before .if1 .taken), left-step (c .before .before .before .before .before .before .before .before .before .before .before .before .before .before .before .before .before .before .args .layout .sectors) (c .before .before .before .before .before .loop .i) (c .before .before .before .before .before .before .before .before .before .before .before .before .before .before .before .before .before .before .args .layout .size) (c .before .before .before .if1 .taken), c .before .before .before .before .before .loop .inv, c .before .before .before .before .before .before .before .before .before .before .before .before .before .before .before .before .before .before .pre, c .before .before .before .before .before .before .before .before .before .before .before .before .before .before .before .before .before .before .good, c .before .before .before .before .before .before .before .before .before .sector-fields .ensures)
+part-write-sector-end-2 c = omega (arith, left (c .before .before .before))
 
 write-sector-requires : tie.Need-write-sector-requires Inv-loop μ-loop
-write-sector-requires c κs = omega (arith, left-step (c .before .before .before .before .before .before .before .before .before .before .before .before .before .before .before .before .before .before .before .args .layout .sectors) (c .before .before .before .before .before .before .loop .i) (2 * c .before .before .before .before .before .before .before .before .before .before .sector-fields .result) (c .before .before .before .before .if1 .taken), left-step (c .before .before .before .before .before .before .before .before .before .before .before .before .before .before .before .before .before .before .before .args .layout .sectors) (c .before .before .before .before .before .before .loop .i) (c .before .before .before .before .before .before .before .before .before .before .before .before .before .before .before .before .before .before .before .args .layout .size) (c .before .before .before .before .if1 .taken), c .before .before .before .before .before .before .loop .inv, c .before .before .before .before .before .before .before .before .before .before .before .before .before .before .before .before .before .before .before .pre, c .before .before .before .before .before .before .before .before .before .before .before .before .before .before .before .before .before .before .before .good, c .before .before .before .before .before .before .before .before .before .before .sector-fields .ensures)
+write-sector-requires c κs = omega (arith, left (c .before .before .before .before))
 
 add-i : tie.Need-add-i Inv-loop μ-loop
-add-i c = omega (arith, left-step (c .before .before .before .before .before .before .before .before .before .before .before .before .before .before .before .before .before .before .before .before .before .before .args .layout .sectors) (c .before .before .before .before .before .before .before .before .before .loop .i) (2 * c .before .before .before .before .before .before .before .before .before .before .before .before .before .sector-fields .result) (c .before .before .before .before .before .before .before .if1 .taken), left-step (c .before .before .before .before .before .before .before .before .before .before .before .before .before .before .before .before .before .before .before .before .before .before .args .layout .sectors) (c .before .before .before .before .before .before .before .before .before .loop .i) (c .before .before .before .before .before .before .before .before .before .before .before .before .before .before .before .before .before .before .before .before .before .before .args .layout .size) (c .before .before .before .before .before .before .before .if1 .taken), c .before .before .before .before .before .before .before .before .before .loop .inv, c .before .before .before .before .before .before .before .before .before .before .before .before .before .before .before .before .before .before .before .before .before .before .pre, c .before .before .before .before .before .before .before .before .before .before .before .before .before .before .before .before .before .before .before .before .before .before .good, c .before .before .before .before .before .before .before .before .before .before .before .before .before .sector-fields .ensures)
+add-i c = omega (arith, left (c .before .before .before .before .before .before .before))
 
 loop-less : tie.Need-loop-less Inv-loop μ-loop
-loop-less c = omega (arith, left-step (c .before .before .before .before .before .before .before .before .before .before .before .before .before .before .before .before .before .before .before .before .before .before .args .layout .sectors) (c .before .before .before .before .before .before .before .before .before .loop .i) (2 * c .before .before .before .before .before .before .before .before .before .before .before .before .before .sector-fields .result) (c .before .before .before .before .before .before .before .if1 .taken), left-step (c .before .before .before .before .before .before .before .before .before .before .before .before .before .before .before .before .before .before .before .before .before .before .args .layout .sectors) (c .before .before .before .before .before .before .before .before .before .loop .i) (c .before .before .before .before .before .before .before .before .before .before .before .before .before .before .before .before .before .before .before .before .before .before .args .layout .size) (c .before .before .before .before .before .before .before .if1 .taken), c .before .before .before .before .before .before .before .before .before .loop .inv, c .before .before .before .before .before .before .before .before .before .before .before .before .before .before .before .before .before .before .before .before .before .before .pre, c .before .before .before .before .before .before .before .before .before .before .before .before .before .before .before .before .before .before .before .before .before .before .good, c .before .before .before .before .before .before .before .before .before .before .before .before .before .sector-fields .ensures)
+loop-less c = omega (arith, left (c .before .before .before .before .before .before .before))
 
 loop-again : tie.Need-loop-again Inv-loop μ-loop
 loop-again c =
@@ -118,17 +140,15 @@ loop-again c =
     let s = f .before .before .before .before .before .before .before .before .before in
     let n = s .args .layout .sectors in
     let i = l .loop .i in
-    let fields = left-step n i (2 * f .sector-fields .result) (t .if1 .taken) in
-    let slots = left-step n i (s .args .layout .size) (t .if1 .taken) in
     let inv = l .loop .inv in (
       search needs,
       same-len-mid (l .loop .start) (l .loop .start + 2 * f .sector-fields .result - l .loop .start) (l .loop .image) (w .write-sector .last .1 .1 .1 .1 .1 .1 .0) (w .write-sector .kept .1 .1 .1 .1 .1 .1 .0) ∙ inv .1,
       ap (λ (x : ℕ). x + s .args .layout .size) (inv .2) ∙ next i (s .args .layout .size),
-      omega (arith, slots, inv),
-      omega (arith, fields, inv),
+      omega (arith, left t),
+      omega (arith, left t, inv),
       inv .5
           ∙ sectors-turn _ _ _ _ _ _ _ _ _ _ i _ (w .before .before .before .mark-of .ensures) (t .if1 .taken) (s .pre .0 .1)
-          (ap (λ (x : ℕ). 2 * x) (f .sector-fields .ensures)) (inv .2) (omega (arith, fields, inv)) (w .write-sector .ensures),
+          (ap (λ (x : ℕ). 2 * x) (f .sector-fields .ensures)) (inv .2) (omega (arith, left t)) (w .write-sector .ensures),
     )
 
 write-run-requires : tie.Need-write-run-requires Inv-loop μ-loop
