@@ -14,6 +14,7 @@ use Rattle.layouts.specs.declared.Layout.{Layout}
 use Rattle.layouts.specs.declared.Refusal.{Refusal}
 use Rattle.layouts.specs.declared.Checked.{Checked}
 use Rattle.layouts.specs.declared.Checked.the-variants.{Passed, Refused}
+use Rattle.layouts.specs.declared.Chosen.{Chosen}
 use Rattle.layouts.specs.declared.Chosen.the-variants as chosen
 use Rattle.layouts.proofs.Layouts.{layout-known, adds}
 use Rattle.layouts.proofs.Refusals.{refusal-append-passed, refusal-append-refused, refusal-passed, taken-passed, taken-refused, track-known}
@@ -47,36 +48,31 @@ usable n h =
     let e : layoutOf n .«image_bytes» ≡ 2 * fields (layoutOf n) = a .image ∙ ap (λ (k : ℕ). 2 * k) (sym (a .track)) in
     record { room = omega (arith, e, s .image); whole = e; area = a .area; size = s .size; sectors = s .sectors; few = s .few; gaps = spaced n h }
 
-module _ (layout cylinder side : ℕ) where
-  -- A layout that the track takes serves the writers, and cylinder and side fit a byte.
-  pub taken-usable : (k : Layout) → taken (layoutOf layout) (refusal (trackTests layout cylinder side)) ≡ chosen.Taken k
-      → Usable k × (cylinder ≤ highestCylinder) × (side ≤ highestSide)
+module _ (layout cylinder side : ℕ) (r : Chosen) (of : r ≡ taken (layoutOf layout) (refusal (trackTests layout cylinder side))) where
+  -- A layout that the track takes serves the writers.
+  pub taken-usable : (k : Layout) → r ≡ chosen.Taken k → Usable k
   taken-usable k e =
-      let known = taken-passed _ _ _ e in
-      let track = track-known layout cylinder side (known .0) in
-      (subst Usable (sym (known .1)) (usable layout (track .0)), track .1, track .2)
+      let known = taken-passed _ _ _ (sym of ∙ e) in
+      subst Usable (sym (known .1)) (usable layout (track-known layout cylinder side (known .0) .0))
 
   module _ (contents marks : List ℕ) (image : ℕ) where
     -- The field tests follow those of the track.
-    pub chosen-refused : (f : Refusal) → taken (layoutOf layout) (refusal (trackTests layout cylinder side)) ≡ chosen.Refused f
-        → chosen.Refused f ≡ taken (layoutOf layout) (refusal (formatTests layout cylinder side contents marks image))
+    pub chosen-refused : (f : Refusal) → r ≡ chosen.Refused f → r ≡ taken (layoutOf layout) (refusal (formatTests layout cylinder side contents marks image))
     unfolding formatTests
-    chosen-refused f e = sym (ap (taken (layoutOf layout)) (refusal-append-refused _ _ f (taken-refused _ _ f e)))
+    chosen-refused f e = e ∙ sym (ap (taken (layoutOf layout)) (refusal-append-refused _ _ f (taken-refused _ _ f (sym of ∙ e))))
 
-    module _ (k : Layout) (e : taken (layoutOf layout) (refusal (trackTests layout cylinder side)) ≡ chosen.Taken k) where
-      pub chosen-passed : refusal (fieldTests k cylinder contents marks image) ≡ Passed
-          → chosen.Taken k ≡ taken (layoutOf layout) (refusal (formatTests layout cylinder side contents marks image))
+    module _ (k : Layout) (e : r ≡ chosen.Taken k) (v : Checked) (tests : v ≡ refusal (fieldTests k cylinder contents marks image)) where
+      pub chosen-passed : v ≡ Passed → chosen.Taken k ≡ taken (layoutOf layout) (refusal (formatTests layout cylinder side contents marks image))
       unfolding formatTests
       chosen-passed f =
-          let known = taken-passed _ _ _ e in
-          rw (refusal-append-passed _ (fieldTests (layoutOf layout) cylinder contents marks image) (known .0), ← known .1, f)
+          let known = taken-passed _ _ _ (sym of ∙ e) in
+          rw (refusal-append-passed _ (fieldTests (layoutOf layout) cylinder contents marks image) (known .0), ← known .1, ← tests, f)
 
-      pub chosen-late : (f : Refusal) → refusal (fieldTests k cylinder contents marks image) ≡ Refused f
-          → chosen.Refused f ≡ taken (layoutOf layout) (refusal (formatTests layout cylinder side contents marks image))
+      pub chosen-late : (f : Refusal) → v ≡ Refused f → chosen.Refused f ≡ taken (layoutOf layout) (refusal (formatTests layout cylinder side contents marks image))
       unfolding formatTests
       chosen-late f g =
-          let known = taken-passed _ _ _ e in
-          rw (refusal-append-passed _ (fieldTests (layoutOf layout) cylinder contents marks image) (known .0), ← known .1, g)
+          let known = taken-passed _ _ _ (sym of ∙ e) in
+          rw (refusal-append-passed _ (fieldTests (layoutOf layout) cylinder contents marks image) (known .0), ← known .1, ← tests, g)
 
 -- Tests that are passed together are passed one list after the other.
 passed-both : (xs ys : List Test) → refusal (xs ++ ys) ≡ Passed → (refusal xs ≡ Passed) × (refusal ys ≡ Passed)
@@ -101,12 +97,12 @@ pub record Accepted (layout cylinder side : ℕ) (contents marks : List ℕ) (im
   pub area : length contents ≡ k .sectors * k .size
   pub marked : length marks ≡ k .sectors
 
-pub accepted : (layout cylinder side : ℕ) (contents marks : List ℕ) (image : ℕ) (k : Layout)
-    → taken (layoutOf layout) (refusal (formatTests layout cylinder side contents marks image)) ≡ chosen.Taken k
+pub accepted : (layout cylinder side : ℕ) (contents marks : List ℕ) (image : ℕ) (r : Chosen) (k : Layout)
+    → r ≡ taken (layoutOf layout) (refusal (formatTests layout cylinder side contents marks image)) → r ≡ chosen.Taken k
     → Accepted layout cylinder side contents marks image k
 unfolding formatTests fieldTests
-accepted layout cylinder side contents marks image k e =
-    let known = taken-passed _ _ _ e in
+accepted layout cylinder side contents marks image r k of e =
+    let known = taken-passed _ _ _ (sym of ∙ e) in
     let two = passed-both (trackTests layout cylinder side) (fieldTests (layoutOf layout) cylinder contents marks image) (known .0) in
     let track = track-known layout cylinder side (two .0) in
     let one = refusal-passed _ _ (two .1) in
@@ -123,3 +119,7 @@ accepted layout cylinder side contents marks image k e =
       area = eqb-true (length contents) (layoutOf layout .«area_bytes») (not-false _ (five .0)) ∙ ap (λ (l : Layout). l .«area_bytes») (sym (known .1)) ∙ u .area;
       marked = eqb-true (length marks) (layoutOf layout .sectors) (not-false _ (or-left _ _ (six .0))) ∙ ap (λ (l : Layout). l .sectors) (sym (known .1));
     }
+
+-- A refused call: what refuses it.
+pub refused : (layout : ℕ) (x : Checked) (r : Chosen) (f : Refusal) → r ≡ taken (layoutOf layout) x → r ≡ chosen.Refused f → x ≡ Refused f
+refused layout x r f of e = taken-refused _ _ f (sym of ∙ e)

@@ -1,13 +1,10 @@
 -- `format` meets its contract: the tests decide, and what passes them is written.
-use mathlib.Core.Path.{sym, _∙_}
 use native.Mathlib.Omega.{arith}
 use denote.Ref.{now}
 use lib.ListN.{length}
-use Rattle.layouts.specs.Layouts.{layoutOf}
 use Rattle.layouts.specs.Refusals.{refusal}
 use Rattle.format.specs.Refusals.{formatTests}
-use Rattle.layouts.proofs.Refusals.{taken-refused}
-use Rattle.format.proofs.Chosen.{accepted}
+use Rattle.format.proofs.Chosen.{accepted, refused}
 use borrow.Author.Needs.{needs}
 use Rattle.format.proofs.format.Statement.{statement}
 use Rattle.format.proofs.format.Tie as tie
@@ -22,14 +19,14 @@ enum-known-taken : tie.Need-enum-known-taken
 enum-known-taken c = search needs
 
 cast-write-track : tie.Need-cast-write-track
-cast-write-track c = omega (arith, accepted _ _ _ _ _ _ _ (sym (c .before .before .before .tested .ensures) ∙ c .before .taken .given .1) .cylinders)
+cast-write-track c = omega (arith, accepted _ _ _ _ _ _ _ _ (c .before .before .before .tested .ensures) (c .before .taken .given .1) .cylinders)
 
 cast-write-track-2 : tie.Need-cast-write-track-2
-cast-write-track-2 c = omega (arith, accepted _ _ _ _ _ _ _ (sym (c .before .before .before .tested .ensures) ∙ c .before .taken .given .1) .sides)
+cast-write-track-2 c = omega (arith, accepted _ _ _ _ _ _ _ _ (c .before .before .before .tested .ensures) (c .before .taken .given .1) .sides)
 
 write-track-requires : tie.Need-write-track-requires
 write-track-requires c κs =
-    let a = accepted _ _ _ _ _ _ _ (sym (c .before .before .before .before .tested .ensures) ∙ c .before .before .taken .given .1) in
+    let a = accepted _ _ _ _ _ _ _ _ (c .before .before .before .before .tested .ensures) (c .before .before .taken .given .1) in
     let u = a .serves in
     let g = u .gaps in
     ((a .whole, a .area, a .marked, u .few, u .size, u .sectors), (g .lead, g .«index_gap», g .«identifier_gap», g .«block_gap»))
@@ -37,15 +34,15 @@ write-track-requires c κs =
 returns : tie.Need-returns
 returns c =
     let a = c .before .before .before .before .before .before .before .args in
-    let refused = taken-refused (layoutOf (a .layout)) (refusal (formatTests (a .layout) (a .cylinder) (a .side) (now (a .«data»)) (now (a .marks)) (length (now (a .image))))) _ (sym (c .before .before .before .tested .ensures) ∙ c .before .refusal .given .1) in
-    record { answers = rw refused; leaves = rw refused }
+    let by = refused (a .layout) (refusal (formatTests (a .layout) (a .cylinder) (a .side) (now (a .«data»)) (now (a .marks)) (length (now (a .image))))) _ _ (c .before .before .before .tested .ensures) (c .before .refusal .given .1) in
+    record { answers = rw by; leaves = rw by }
 
 same-length : tie.Need-same-length
 same-length c = search needs
 
 returns-2 : tie.Need-returns-2
 returns-2 c =
-    let a = accepted _ _ _ _ _ _ _ (sym (c .before .before .before .before .before .before .before .tested .ensures) ∙ c .before .before .before .before .before .taken .given .1) in
+    let a = accepted _ _ _ _ _ _ _ _ (c .before .before .before .before .before .before .before .tested .ensures) (c .before .before .before .before .before .taken .given .1) in
     record { answers = rw (a .passed); leaves = rw (a .passed, ← a .named) (c .before .before .write-track .ensures) }
 
 pub format-spec : {M : Type 1} → statement M

@@ -1,5 +1,4 @@
 -- `tested` meets its contract: the fields are tested after the track.
-use mathlib.Core.Path.{sym, _∙_}
 use Rattle.format.proofs.Chosen.{taken-usable, chosen-refused, chosen-passed, chosen-late}
 use borrow.Author.Needs.{needs}
 use Rattle.format.proofs.tests.tested.Statement.{statement}
@@ -15,13 +14,11 @@ enum-told : tie.Need-enum-told
 enum-told c = search needs
 
 returns : tie.Need-returns
-returns c =
-    let told = c .enum-told .given .1 in
-    told ∙ chosen-refused _ _ _ _ _ _ _ (sym (c .before .before .on-track .ensures) ∙ told)
+returns c = chosen-refused _ _ _ _ (c .before .before .on-track .ensures) _ _ _ _ (c .enum-told .given .1)
 
 field-tests-requires : tie.Need-field-tests-requires
 field-tests-requires c κs =
-    let u = taken-usable _ _ _ _ (sym (c .before .before .before .on-track .ensures) ∙ c .before .chosen .given .1) .0 in
+    let u = taken-usable _ _ _ _ (c .before .before .before .on-track .ensures) _ (c .before .chosen .given .1) in
     (u .room, u .area, u .size, u .sectors)
 
 enum-known-refusal : tie.Need-enum-known-refusal
@@ -33,12 +30,12 @@ enum-told-2 c = search needs
 returns-2 : tie.Need-returns-2
 returns-2 c =
     let k = c .before .before .before .before in
-    chosen-passed _ _ _ _ _ _ _ (sym (k .before .before .on-track .ensures) ∙ k .chosen .given .1) (sym (c .before .before .field-tests .ensures) ∙ c .enum-told2 .given .1)
+    chosen-passed _ _ _ _ (k .before .before .on-track .ensures) _ _ _ _ (k .chosen .given .1) _ (c .before .before .field-tests .ensures) (c .enum-told2 .given .1)
 
 returns-3 : tie.Need-returns-3
 returns-3 c =
     let k = c .before .before .before .before .before in
-    chosen-late _ _ _ _ _ _ _ (sym (k .before .before .on-track .ensures) ∙ k .chosen .given .1) _ (sym (c .before .before .before .field-tests .ensures) ∙ c .before .refusal .given .1)
+    chosen-late _ _ _ _ (k .before .before .on-track .ensures) _ _ _ _ (k .chosen .given .1) _ (c .before .before .before .field-tests .ensures) _ (c .before .refusal .given .1)
 
 pub tested-spec : {M : Type 1} → statement M
 tested-spec =
