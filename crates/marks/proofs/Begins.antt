@@ -133,10 +133,10 @@ module _ (mode : Mode) (kinds : Kinds) (image : List ℕ) (from begin : ℕ)
 
   -- all the cells up to the next byte, where nothing is left
   pub passed-all : (o p left : ℕ) → p ≡ 8 * (from / 8) + o → left ≡ begin * 2 ^ o % 256 → left ≡ 0
-      → (j : ℕ) → j < 8 * (from / 8 + 1) - p → some mode (cell image) (8 * length image) kinds (p + j) ≡ false
-  passed-all o p left e f z j h =
-      passed (o + j) (p + j) (omega arith) (omega arith) (sym (left-bit begin o j (omega arith)) ∙ rw (← f, z, zero-div))
+      → (q : ℕ) → p ≤ q → q < 8 * (from / 8 + 1) → some mode (cell image) (8 * length image) kinds q ≡ false
+  passed-all o p left e f z q h l =
+      passed (o + (q - p)) q (omega arith) (omega arith) (sym (left-bit begin o (q - p) (omega arith)) ∙ rw (← f, z, zero-div))
 
   -- all of them, where no mark can begin
-  pub passed-byte : begin ≡ 0 → (j : ℕ) → j < 8 * (from / 8 + 1) - from → some mode (cell image) (8 * length image) kinds (from + j) ≡ false
+  pub passed-byte : begin ≡ 0 → (q : ℕ) → from ≤ q → q < 8 * (from / 8 + 1) → some mode (cell image) (8 * length image) kinds q ≡ false
   passed-byte z = passed-all (from % 8) from 0 (omega arith) (rw (z, zero-mul)) refl

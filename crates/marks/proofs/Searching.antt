@@ -11,7 +11,7 @@ use lib.ListN.{length}
 use Rattle.cells.specs.declared.Mode.{Mode}
 use Rattle.cells.specs.declared.Mode.the-variants.{Fm, Mfm}
 use Rattle.marks.specs.Marks.{string, stands}
-use Rattle.marks.specs.Search.{nowhere, at, find, among, sought, standing, some, named, firstMark}
+use Rattle.marks.specs.Search.{nowhere, at, find, among, choose, isFound, sought, standing, some, named, firstMark}
 use Rattle.marks.specs.declared.Mark.{Mark}
 use Rattle.marks.specs.declared.Mark.the-variants.{Index, Identifier, Data, Control, Open}
 use Rattle.marks.specs.declared.Kinds.{Kinds}
@@ -22,9 +22,12 @@ use Rattle.marks.proofs.Spelling.{lies-beyond, string-length}
 pub le-or-lt : (a b : ℕ) → (a ≤ b) ⊎ (b < a)
 le-or-lt a b = elim (decLe a b) [ yes h ↦ inl h | no h ↦ inr (omega arith) ]
 
--- A search that found a mark did not find nothing.
-pub nothing-at : {q : ℕ} {mark : Mark} → Nothing ≡ At q mark → ⊥
-nothing-at e = let z : _≡_ {A = ℕ} 0 1 = cc in omega arith
+-- What a search of one part found is found; where that is nothing, the search goes on.
+pub part-found : {r y : Found} (x : Found) (q : ℕ) (mark : Mark) → r ≡ At q mark → y ≡ choose (isFound r) r x → y ≡ r
+part-found x q mark e f = rw e (rw e at f)
+
+pub part-none : {r x y : Found} → r ≡ Nothing → y ≡ choose (isFound r) r x → y ≡ x
+part-none e f = rw e at f
 
 module _ (test : ℕ → Bool) where
   -- no place is left
@@ -115,19 +118,25 @@ module _ (mode : Mode) (c : ℕ → ℕ) (n : ℕ) (kinds : Kinds) where
   unfolding sought
   sought-off p mark e = rw e
 
-  -- The whole search, from what it comes to at the place p.
-  pub settled-none : (from to p : ℕ) → find (some mode c n kinds) (to - from) from ≡ find (some mode c n kinds) (to - p) p
-      → find (some mode c n kinds) (to - p) p ≡ nowhere → Nothing ≡ firstMark mode c n kinds from to
+  -- Places at which no mark of the kinds stands are passed over.
+  pub first-skip : (p e to : ℕ) → p ≤ e → ((q : ℕ) → p ≤ q → q < e → some mode c n kinds q ≡ false)
+      → firstMark mode c n kinds p to ≡ firstMark mode c n kinds e to
   unfolding firstMark
-  settled-none from to p e f = sym (ap (named mode c n kinds) (e ∙ f))
+  first-skip p e to h none =
+      let up : p + (e - p) ≡ e = omega arith in
+      ap (named mode c n kinds) (find-skip (some mode c n kinds) (e - p) p to (λ j l. none (p + j) (omega arith) (omega arith))) ∙ rw up
 
-  pub settled : (from to p : ℕ) {r : Found} → find (some mode c n kinds) (to - from) from ≡ find (some mode c n kinds) (to - p) p
-      → r ≡ firstMark mode c n kinds p to → r ≡ firstMark mode c n kinds from to
+  -- Where the search ends: no place is left, the image of k bytes ends, or a mark stands.
+  pub first-end : (p to : ℕ) → to ≤ p → firstMark mode c n kinds p to ≡ Nothing
   unfolding firstMark
-  settled from to p e f = f ∙ sym (ap (named mode c n kinds) e)
+  first-end p to h = ap (named mode c n kinds) (find-end (some mode c n kinds) p to h)
 
-  pub settled-found : (from to p q : ℕ) (mark : Mark) (r : Found) → find (some mode c n kinds) (to - from) from ≡ find (some mode c n kinds) (to - p) p
-      → p < to → r ≡ standing mode c n kinds p → r ≡ At q mark → r ≡ firstMark mode c n kinds from to
+  pub first-beyond : (p k to : ℕ) → n ≡ 8 * k → k ≤ p / 8 + 1 → firstMark mode c n kinds p to ≡ Nothing
   unfolding firstMark
-  settled-found from to p q mark r e h f g =
-      f ∙ sym (ap (named mode c n kinds) (e ∙ find-hit (some mode c n kinds) p to h (some-found p q mark (sym f ∙ g))))
+  first-beyond p k to e h =
+      ap (named mode c n kinds) (find-none (some mode c n kinds) (to - p) p (λ q l. some-none q (standing-beyond q k e (omega arith))))
+
+  pub first-found : (p to q : ℕ) (mark : Mark) {r : Found} → p < to → r ≡ standing mode c n kinds p → r ≡ At q mark → firstMark mode c n kinds p to ≡ r
+  unfolding firstMark
+  first-found p to q mark h e f =
+      ap (named mode c n kinds) (find-hit (some mode c n kinds) p to h (some-found p q mark (sym e ∙ f))) ∙ sym e

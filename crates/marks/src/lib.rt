@@ -6,7 +6,7 @@ ghost use Prim.Native.Nat.{ℕ, _+_, _-_, _*_, _≤_, _<_, _/_, _%_, min};
 ghost use lib.ListN.{length, getD};
 ghost use Rattle.cells.specs.Cells.{cell};
 ghost use Rattle.marks.specs.Marks.{spells, lies, stands};
-ghost use Rattle.marks.specs.Search.{find, among, sought, standing, some, Rules};
+ghost use Rattle.marks.specs.Search.{among, choose, isFound, sought, standing, firstMark, Rules};
 ghost use Rattle.marks.specs.Outcomes.{Housed, TellsStanding, IsRegisterAfter, IsFirstMark};
 
 // The marks: FC, FE, FB, F8, and the house mark F9 of a rewrite under way.
@@ -193,26 +193,20 @@ fn told(mode: Mode, image: &[u8], place: usize) -> Mark
     ensures { λ r. ⌜ ((kinds : Kinds) (mark : Mark) → sought mode (cell (now (image .entry))) (8 * length (now (image .entry))) kinds place mark ≡ true → r ≡ mark) ⌝ }
 {
     match mode {
-        Mode::Fm => {
-            let last = cells::octet(image, place + 8);
-            match last {
-                0x7E => Mark::Identifier,
-                0x6F => Mark::Data,
-                0x6A => Mark::Control,
-                0x6B => Mark::Open,
-                _ => Mark::Index,
-            }
-        }
-        Mode::Mfm => {
-            let last = cells::octet(image, place + 56);
-            match last {
-                0x54 => Mark::Identifier,
-                0x45 => Mark::Data,
-                0x4A => Mark::Control,
-                0x49 => Mark::Open,
-                _ => Mark::Index,
-            }
-        }
+        Mode::Fm => match cells::octet(image, place + 8) {
+            0x7E => Mark::Identifier,
+            0x6F => Mark::Data,
+            0x6A => Mark::Control,
+            0x6B => Mark::Open,
+            _ => Mark::Index,
+        },
+        Mode::Mfm => match cells::octet(image, place + 56) {
+            0x54 => Mark::Identifier,
+            0x45 => Mark::Data,
+            0x4A => Mark::Control,
+            0x49 => Mark::Open,
+            _ => Mark::Index,
+        },
     }
 }
 
@@ -228,12 +222,11 @@ fn standing(mode: Mode, kinds: Kinds, image: &[u8], place: usize) -> Found
     Found::Nothing
 }
 
-// The first mark of the kinds that begins in the byte of `from`, at a cell from `from` up to and without `to`. Only the cells that
-// `begins` has are looked at.
+// The first mark of the kinds that begins in the byte of `from`, at a cell from `from` up to and without `to`; where there is none, the
+// search goes on at the next byte. Only the cells that `begins` has are looked at.
 fn tried(begins: u8, mode: Mode, kinds: Kinds, image: &[u8], from: usize, to: usize) -> Found
     requires { ⌜ Housed (now image) × (from / 8 + 1 < length (now image)) × Rules mode (getD (now image) (from / 8 + 1) 0) begins ⌝ }
-    ensures passes { λ r. ⌜ (r ≡ Found.Nothing → find (some mode (cell (now (image .entry))) (8 * length (now (image .entry))) kinds) (to - from) from ≡ find (some mode (cell (now (image .entry))) (8 * length (now (image .entry))) kinds) (to - 8 * (from / 8 + 1)) (8 * (from / 8 + 1))) ⌝ }
-    ensures finds { λ r. ⌜ ((q : ℕ) (mark : Mark) → r ≡ Found.At q mark → IsFirstMark mode kinds (now (image .entry)) from to r) ⌝ }
+    ensures { λ r. ⌜ firstMark mode (cell (now (image .entry))) (8 * length (now (image .entry))) kinds from to ≡ choose (isFound r) r (firstMark mode (cell (now (image .entry))) (8 * length (now (image .entry))) kinds (8 * (from / 8 + 1)) to) ⌝ }
 {
     let mut left = ((begins as u32) << (from % 8)) % 256;
     let mut place = from;
@@ -272,6 +265,7 @@ fn search(
     requires { ⌜ Housed (now image) × ((byte : ℕ) → byte < 256 → Rules mode byte (getD (now begins) byte 0)) ⌝ }
     ensures { λ r. ⌜ IsFirstMark mode kinds (now (image .entry)) from to r ⌝ }
 {
+    // no place before `to` lies behind byte to / 8, and the byte behind that one is the last to be looked at
     let end = lesser(image.len(), to / 8 + 2);
     let mut place = from;
     let mut next = from / 8 + 1;

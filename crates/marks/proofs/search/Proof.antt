@@ -1,28 +1,23 @@
 -- `search` meets its contract: the search from the present place on finds what the whole search finds, and the next byte is the one behind
 -- that of the place.
 use Prim.Native.Nat.{_+_, _-_, _*_, _/_}
-use mathlib.Core.Path.{_≡_, refl, _∙_}
+use mathlib.Core.Path.{_≡_, refl, sym, _∙_}
 use mathlib.Core.Logic.{⊎-elim}
 use native.Mathlib.Omega.{arith}
 use borrow.Author.Needs.{needs}
 use denote.Ref.{now}
 use lib.ListN.{length}
 use Rattle.cells.specs.Cells.{cell}
-use Rattle.marks.specs.Search.{find, some}
+use Rattle.marks.specs.Search.{firstMark}
 use Rattle.marks.proofs.Begins.{passed-byte}
-use Rattle.marks.proofs.Searching.{find-end, find-skip, find-none, some-none, standing-beyond, settled, settled-none, le-or-lt}
+use Rattle.marks.proofs.Searching.{le-or-lt, part-found, part-none, first-skip, first-end, first-beyond}
 use Rattle.marks.proofs.search.Statement.{statement}
 use Rattle.marks.proofs.search.Tie as tie
-use Rattle.marks.proofs.search.Reads as reads
-use Rattle.marks.proofs.search.Lts as lts
-use Rattle.marks.proofs.lesser.Reads as lesser-reads
-use Rattle.marks.proofs.tried.Reads as tried-reads
 
 abbrev Inv-loop : tie.InvT-loop
 Inv-loop begins mode kinds image from to end place₀ next₀ place next =
     (place / 8 + 1 ≡ next)
-    × (find (some mode (cell image) (8 * length image) kinds) (to - from) from
-    ≡ find (some mode (cell image) (8 * length image) kinds) (to - place) place)
+    × (firstMark mode (cell image) (8 * length image) kinds from to ≡ firstMark mode (cell image) (8 * length image) kinds place to)
 
 abbrev μ-loop : tie.MeasureT-loop
 μ-loop begins mode kinds image from to end place₀ next₀ place next = end - next
@@ -59,8 +54,7 @@ enum-told c = search needs
 
 returns : tie.Need-returns Inv-loop μ-loop
 returns c =
-    let l = c .before .before .before .before .before .before .before in
-    settled _ _ _ _ _ _ (l .loop .place) (l .loop .inv .1) (c .before .before .tried .ensures .1 _ _ (c .enum-told .given .1))
+    sym (c .before .before .before .before .before .before .before .loop .inv .1 ∙ part-found _ _ _ (c .enum-told .given .1) (c .before .before .tried .ensures))
 
 enum-told-2 : tie.Need-enum-told-2 Inv-loop μ-loop
 enum-told-2 c = search needs
@@ -80,15 +74,13 @@ loop-again c =
     let l = k .before .before in
     let a = l .before .before .before .args in
     let p = l .loop .place in
-    let known = k .shared-slice-known2 .given in
-    let up : p + (8 * (p / 8 + 1) - p) ≡ 8 * (p / 8 + 1) = omega arith in (
+    let known = k .shared-slice-known2 .given in (
       omega arith,
       l .loop .inv .1
-          ∙ ⊎-elim (λ w. w .1 .ensures .0 (w .3 .given .1))
-          (λ w. find-skip _ (8 * (p / 8 + 1) - p) p (a .to)
+          ∙ ⊎-elim (λ w. part-none (w .3 .given .1) (w .1 .ensures))
+          (λ w. first-skip _ _ _ _ p (8 * (p / 8 + 1)) (a .to) (omega arith)
           (passed-byte (a .mode) (a .kinds) (now (a .image)) p _ (known (p / 8 + 1) .fits) (known (p / 8 + 1 + 1) .fits)
-          (rw (l .loop .inv .0) (l .before .before .before .pre .1 _ (known (l .loop .next) .fits))) (w .left))
-          ∙ rw up)
+          (rw (l .loop .inv .0) (l .before .before .before .pre .1 _ (known (l .loop .next) .fits))) (w .left)))
           (c .if1 .came)
           ∙ rw (l .loop .inv .0),
     )
@@ -98,10 +90,7 @@ returns-2 c =
     let l = c .before in
     let a = l .before .before .before .args in
     let p = l .loop .place in
-    settled-none (a .mode) (cell (now (a .image))) (8 * length (now (a .image))) (a .kinds) (a .from) (a .to) p (l .loop .inv .1)
-    (⊎-elim (λ h. find-end _ p (a .to) h)
-    (λ h. find-none _ _ _ (λ q i. some-none _ _ _ _ q (standing-beyond _ _ _ _ q (length (now (a .image))) refl (omega arith))))
-    (le-or-lt (a .to) p))
+    sym (l .loop .inv .1 ∙ ⊎-elim (first-end _ _ _ _ p (a .to)) (λ h. first-beyond _ _ _ _ p (length (now (a .image))) (a .to) refl (omega arith)) (le-or-lt (a .to) p))
 
 pub search-spec : {M : Type 1} → statement M
 search-spec =

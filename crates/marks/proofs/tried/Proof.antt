@@ -9,22 +9,18 @@ use borrow.Author.Needs.{needs}
 use denote.Ref.{now}
 use lib.ListN.{length}
 use Rattle.cells.specs.Cells.{cell}
-use Rattle.marks.specs.Search.{find, some}
+use Rattle.marks.specs.Search.{some, firstMark}
 use Rattle.marks.proofs.Begins.{left-next, left-within, passed-one, passed-all}
-use Rattle.marks.proofs.Searching.{find-end, find-skip, some-none, settled-found, nothing-at}
+use Rattle.marks.proofs.Searching.{some-none, first-skip, first-end, first-found}
 use Rattle.marks.proofs.tried.Statement.{statement}
 use Rattle.marks.proofs.tried.Tie as tie
-use Rattle.marks.proofs.tried.Reads as reads
-use Rattle.marks.proofs.tried.Lts as lts
-use Rattle.marks.proofs.standing.Reads as standing-reads
 
 abbrev Inv-loop : tie.InvT-loop
 Inv-loop begins mode kinds image from to left₀ place₀ left place =
     (8 * (from / 8) ≤ place)
     × (place ≤ 8 * (from / 8 + 1))
     × (left ≡ begins * 2 ^ (place - 8 * (from / 8)) % 256)
-    × (find (some mode (cell image) (8 * length image) kinds) (to - from) from
-    ≡ find (some mode (cell image) (8 * length image) kinds) (to - place) place)
+    × (firstMark mode (cell image) (8 * length image) kinds from to ≡ firstMark mode (cell image) (8 * length image) kinds place to)
 
 abbrev μ-loop : tie.MeasureT-loop
 μ-loop begins mode kinds image from to left₀ place₀ left place = 8 * (from / 8 + 1) - place
@@ -42,10 +38,7 @@ loop-holds c =
     (search needs, search needs, rw o (omega arith), refl)
 
 returns : tie.Need-returns Inv-loop μ-loop
-returns c =
-    let l = c .before .before .before in
-    let a = l .before .before .args in
-    (λ _. l .loop .inv .3 ∙ find-end _ _ _ (c .if2 .taken) ∙ sym (find-end _ _ _ (omega arith)), λ q mark e. absurd (nothing-at e))
+returns c = c .before .before .before .loop .inv .3 ∙ first-end _ _ _ _ _ _ (c .if2 .taken) ∙ sym (first-end _ _ _ _ _ _ (omega arith))
 
 standing-requires : tie.Need-standing-requires Inv-loop μ-loop
 standing-requires c κs = search needs
@@ -55,13 +48,10 @@ enum-told c = search needs
 
 returns-2 : tie.Need-returns-2 Inv-loop μ-loop
 returns-2 c =
-    let l = c .before .before .before .before .before .before in
-    let a = l .before .before .args in (
-      λ e. absurd (nothing-at (sym e ∙ c .enum-told .given .1)),
-      λ q mark e.
-          settled-found (a .mode) (cell (now (a .image))) (8 * length (now (a .image))) (a .kinds) (a .from) (a .to) (l .loop .place) q mark _
-          (l .loop .inv .3) (search needs) (c .before .before .standing .ensures) e,
-    )
+    let e = c .enum-told .given .1 in
+    c .before .before .before .before .before .before .loop .inv .3
+    ∙ first-found _ _ _ _ _ _ _ _ (search needs) (c .before .before .standing .ensures) e
+    ∙ sym (rw e)
 
 enum-told-2 : tie.Need-enum-told-2 Inv-loop μ-loop
 enum-told-2 c = search needs
@@ -94,7 +84,7 @@ loop-again c =
       omega arith,
       omega arith,
       rw (l .loop .inv .2, next) (left-next (a .begins) (p - 8 * (a .from / 8))),
-      l .loop .inv .3 ∙ find-skip _ 1 p (a .to) (λ j h. let e : p + j ≡ p = omega arith in rw e none),
+      l .loop .inv .3 ∙ first-skip _ _ _ _ p (p + 1) (a .to) (omega arith) (λ q h k. let e : q ≡ p = omega arith in rw e none),
     )
 
 returns-3 : tie.Need-returns-3 Inv-loop μ-loop
@@ -103,14 +93,10 @@ returns-3 c =
     let a = l .before .before .args in
     let p = l .loop .place in
     let known = l .before .shared-slice-known .given in
-    let up : p + (8 * (a .from / 8 + 1) - p) ≡ 8 * (a .from / 8 + 1) = omega arith in (
-      λ _. l .loop .inv .3
-          ∙ find-skip _ (8 * (a .from / 8 + 1) - p) p (a .to)
-          (passed-all (a .mode) (a .kinds) (now (a .image)) (a .from) (a .begins) (known (a .from / 8 + 1) .fits) (known (a .from / 8 + 1 + 1) .fits)
-          (l .before .before .pre .2) (p - 8 * (a .from / 8)) p _ (omega arith) (l .loop .inv .2) (c .loop-test .left))
-          ∙ rw up,
-      λ q mark e. absurd (nothing-at e),
-    )
+    l .loop .inv .3
+    ∙ first-skip _ _ _ _ p (8 * (a .from / 8 + 1)) (a .to) (l .loop .inv .1)
+    (passed-all (a .mode) (a .kinds) (now (a .image)) (a .from) (a .begins) (known (a .from / 8 + 1) .fits) (known (a .from / 8 + 1 + 1) .fits)
+    (l .before .before .pre .2) (p - 8 * (a .from / 8)) p _ (omega arith) (l .loop .inv .2) (c .loop-test .left))
 
 pub tried-spec : {M : Type 1} → statement M
 tried-spec =
