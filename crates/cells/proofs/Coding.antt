@@ -1,6 +1,6 @@
 -- What is coded is read back, proved once over the mode: a clock cell is 0 or 1 in both, and nothing more is asked of it.
 use mathlib.Core.Path.{_≡_, sym, _∙_}
-use Prim.Native.Nat.{ℕ, _+_, _-_, _*_, _/_, _%_, _<_}
+use Prim.Native.Nat.{ℕ, _+_, _*_, _/_, _%_, _<_}
 use native.Mathlib.Omega.{arith}
 use lib.Dec.{lit<}
 use Rattle.cells.proofs.Digits.{bit-lt, byte-lt, bits}

@@ -2,3 +2,5 @@ pub mod Table
 pub mod Digits
 pub mod Joined
 pub mod Coding
+pub mod Stores
+pub mod Bytes

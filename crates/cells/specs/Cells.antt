@@ -1,8 +1,8 @@
 -- The cells of an image, and what eight or sixteen of them hold. An image is bytes, eight cells each, most significant bit first; it
 -- begins at the index hole and does not wrap round (01, "The image and the four layouts"). Past the image's end every cell is 0, so
 -- that each definition has a value at every cell. From the octet on, all is said of a function c, whose value c i is cell i.
-use Prim.Native.Nat.{ℕ, _+_, _-_, _*_, _/_, _%_, _^_}
-use mathlib.Core.List.{List}
+use Prim.Native.Nat.{ℕ, zero, suc, _+_, _-_, _*_, _/_, _%_, _^_}
+use mathlib.Core.List.{List, [], _∷_}
 use lib.ListN.{getD}
 
 -- Cell i of an image (01, "The image and the four layouts").
@@ -22,3 +22,8 @@ octet c p = byteOf (c p) (c (p + 1)) (c (p + 2)) (c (p + 3)) (c (p + 4)) (c (p +
 unfoldable pub dataByte : (ℕ → ℕ) → ℕ → ℕ
 dataByte c p =
     byteOf (c (p + 1)) (c (p + 3)) (c (p + 5)) (c (p + 7)) (c (p + 9)) (c (p + 11)) (c (p + 13)) (c (p + 15))
+
+-- The k data bytes from cell p on, one behind the other.
+unfoldable pub dataBytes : (ℕ → ℕ) → ℕ → ℕ → List ℕ
+dataBytes c p zero = []
+dataBytes c p (suc k) = dataByte c p ∷ dataBytes c (p + 16) k

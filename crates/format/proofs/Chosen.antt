@@ -1,14 +1,14 @@
 -- What the tests of a format choose: the layout of the number on its track, whose numbers then serve the writers.
 use mathlib.Core.Path.{_≡_, refl, sym, ap, _∙_, subst}
 use mathlib.Core.Bool.{Bool, true, false, _||_}
-use mathlib.Core.List.{List, _++_}
+use mathlib.Core.List.{List}
 use Prim.Native.Nat.{ℕ, _*_, _≤_}
 use native.Mathlib.Omega.{arith}
 use borrow.Author.Needs.{needs}
 use borrow.Author.Tests.{eqb-true, not-false}
 use lib.ListN.{length}
 use Rattle.layouts.specs.Layouts.{highest, layoutOf, fields}
-use Rattle.layouts.specs.Refusals.{Test, refusal, taken, trackTests}
+use Rattle.layouts.specs.Refusals.{refusal, taken, trackTests}
 use Rattle.layouts.specs.Tracks.{highestCylinder, highestSide}
 use Rattle.layouts.specs.declared.Layout.{Layout}
 use Rattle.layouts.specs.declared.Refusal.{Refusal}
@@ -17,7 +17,7 @@ use Rattle.layouts.specs.declared.Checked.the-variants.{Passed, Refused}
 use Rattle.layouts.specs.declared.Chosen.{Chosen}
 use Rattle.layouts.specs.declared.Chosen.the-variants as chosen
 use Rattle.layouts.proofs.Layouts.{layout-known, adds}
-use Rattle.layouts.proofs.Refusals.{refusal-append-passed, refusal-append-refused, refusal-passed, taken-passed, taken-refused, track-known}
+use Rattle.layouts.proofs.Refusals.{passed-both, refusal-passed, taken-passed, taken-refused, track-known}
 use Rattle.format.specs.Refusals.{fieldTests, formatTests}
 use Rattle.format.proofs.Parts.{Spaced, spaced}
 
@@ -54,33 +54,6 @@ module _ (layout cylinder side : ℕ) (r : Chosen) (of : r ≡ taken (layoutOf l
   taken-usable k e =
       let known = taken-passed _ _ _ (sym of ∙ e) in
       subst Usable (sym (known .1)) (usable layout (track-known layout cylinder side (known .0) .0))
-
-  module _ (contents marks : List ℕ) (image : ℕ) where
-    -- The field tests follow those of the track.
-    pub chosen-refused : (f : Refusal) → r ≡ chosen.Refused f → r ≡ taken (layoutOf layout) (refusal (formatTests layout cylinder side contents marks image))
-    unfolding formatTests
-    chosen-refused f e = e ∙ sym (ap (taken (layoutOf layout)) (refusal-append-refused _ _ f (taken-refused _ _ f (sym of ∙ e))))
-
-    module _ (k : Layout) (e : r ≡ chosen.Taken k) (v : Checked) (tests : v ≡ refusal (fieldTests k cylinder contents marks image)) where
-      pub chosen-passed : v ≡ Passed → chosen.Taken k ≡ taken (layoutOf layout) (refusal (formatTests layout cylinder side contents marks image))
-      unfolding formatTests
-      chosen-passed f =
-          let known = taken-passed _ _ _ (sym of ∙ e) in
-          rw (refusal-append-passed _ (fieldTests (layoutOf layout) cylinder contents marks image) (known .0), ← known .1, ← tests, f)
-
-      pub chosen-late : (f : Refusal) → v ≡ Refused f → chosen.Refused f ≡ taken (layoutOf layout) (refusal (formatTests layout cylinder side contents marks image))
-      unfolding formatTests
-      chosen-late f g =
-          let known = taken-passed _ _ _ (sym of ∙ e) in
-          rw (refusal-append-passed _ (fieldTests (layoutOf layout) cylinder contents marks image) (known .0), ← known .1, ← tests, g)
-
--- Tests that are passed together are passed one list after the other.
-passed-both : (xs ys : List Test) → refusal (xs ++ ys) ≡ Passed → (refusal xs ≡ Passed) × (refusal ys ≡ Passed)
-passed-both xs ys e = go (refusal xs) refl
-  where
-    go : (r : Checked) → refusal xs ≡ r → (refusal xs ≡ Passed) × (refusal ys ≡ Passed)
-    go Passed p = (p, sym (refusal-append-passed xs ys p) ∙ e)
-    go (Refused f) p = let q = refusal-append-refused xs ys f p in let z : _≡_ {A = ℕ} 0 1 = cc in absurd (omega arith)
 
 or-left : (a b : Bool) → (a || b) ≡ false → a ≡ false
 or-left true b e = e

@@ -1,7 +1,7 @@
 -- Fields one behind the other make the sector and the track.
 use mathlib.Core.Path.{_≡_, sym, _∙_}
 use mathlib.Core.List.{List, [], _∷_, _++_, append-assoc}
-use Prim.Native.Nat.{ℕ, _+_, _-_, _*_, _%_, _≤_}
+use Prim.Native.Nat.{ℕ, _+_, _*_, _%_, _≤_}
 use native.Mathlib.Omega.{arith}
 use lib.ListN.{length, length-append}
 use lib.Seq.{sets}
@@ -14,7 +14,7 @@ use Rattle.marks.specs.declared.Mark.the-variants.{Index, Identifier}
 use Rattle.format.specs.Order.{mark as marked, image, run, bytes, checked, block, sector}
 use Rattle.format.proofs.Symbols.{length-run, length-string, length-block, length-sector}
 use Rattle.format.proofs.Parts.{address, sector-parts, leader, leader-parts}
-use Rattle.format.proofs.Writing.{sets-append, sets-whole}
+use Rattle.cells.proofs.Stores.{sets-append, sets-whole}
 
 -- A field behind another: where the first begins, and where the second.
 pub behind : {one two : List ℕ} (area : List ℕ) (at there : ℕ) (xs ys : List ℕ) → one ≡ sets area at xs → there ≡ at + length xs → two ≡ sets one there ys

@@ -1,5 +1,5 @@
 -- Laws of the tests that go over the marks and the sectors.
-use mathlib.Core.Path.{_≡_, refl, ap}
+use mathlib.Core.Path.{_≡_, refl}
 use mathlib.Core.Bool.{Bool, true, false, cond, not, or-true}
 use mathlib.Core.List.{List, [], _∷_}
 use Prim.Native.Nat.{ℕ, suc, _+_, _-_, _*_, _<_, _≤_}
@@ -9,14 +9,13 @@ use lib.ListN.{length, getD, drop, drop-of-length-le}
 use lib.Seq.{drop-cons}
 use borrow.Author.Tests.{eq-eqb, ne-eqb, eqb-true, not-false, lt-ltb, le-ltb}
 use lib.Dec.{eqb}
-use Rattle.layouts.specs.Layouts.{fields}
+use Rattle.layouts.specs.Layouts.{fields, numbers}
 use Rattle.layouts.specs.Refusals.{Test, refusal, areaTest, markTest, controlTest}
 use Rattle.layouts.proofs.Refusals.{refusal-passed}
 use Rattle.layouts.specs.declared.Layout.{Layout}
 use Rattle.layouts.specs.declared.Refusal.{Refusal}
 use Rattle.layouts.specs.declared.Refusal.the-variants.{ImageLength, MarkBytes, Overfull}
 use Rattle.layouts.specs.declared.Checked.the-variants.{Passed, Refused}
-use Rattle.format.specs.Order.{numbers}
 use Rattle.format.specs.Refusals.{some, imageTest, marksTest, controlsTest, fieldsTest, fieldTests}
 
 -- What a single test answers tells whether it applies.

@@ -9,9 +9,9 @@ use borrow.Author.Needs.{needs}
 use lib.ListN.{length, getD, length-take, length-drop}
 use Rattle.edc.specs.Register.{edcOf, edcBytes}
 use Rattle.format.proofs.Symbols.{after, image-append, bytes-append, bytes-out, image-run, image-mark, image-block, image-sector, width, length-image, width-run, width-sector}
-use Rattle.format.specs.Order.{mark, image, run, bytes, checked, markOf, slot, numbers, gap, block, sector, sectors, track, formatted}
+use Rattle.format.specs.Order.{mark, image, run, bytes, checked, markOf, slot, gap, block, sector, sectors, track, formatted}
 use Rattle.layouts.proofs.Layouts.{layout-known}
-use Rattle.layouts.specs.Layouts.{gapByte, highest, layoutOf, markBytes, sectorFields, fields}
+use Rattle.layouts.specs.Layouts.{gapByte, highest, layoutOf, markBytes, sectorFields, fields, numbers}
 use Rattle.layouts.specs.declared.Layout.{Layout}
 use Rattle.marks.specs.Marks.{string, markByte, covered}
 use Rattle.marks.specs.declared.Mark.{Mark}

@@ -8,13 +8,13 @@ use native.Mathlib.Omega.{arith}
 use borrow.Rule.Slice.PartMut.{putMid}
 use lib.ListN.{length, getD, take, drop}
 use lib.Seq.{sets}
-use Rattle.layouts.specs.Layouts.{gapByte, markBytes, fields, sectorFields}
+use Rattle.layouts.specs.Layouts.{gapByte, markBytes, fields, sectorFields, numbers}
 use Rattle.layouts.specs.declared.Layout.{Layout}
 use Rattle.marks.specs.declared.Mark.{Mark}
-use Rattle.format.specs.Order.{image, run, markOf, slot, numbers, sector, formatted}
+use Rattle.format.specs.Order.{image, run, markOf, slot, sector, formatted}
 use Rattle.format.proofs.Symbols.{length-sector}
 use Rattle.format.proofs.Parts.{Spaced, leader, length-leader, length-slot, slotted, slotted-numbers, length-numbers, stretch, stretches, track-parts, length-fields}
-use Rattle.format.proofs.Writing.{sets-append, sets-whole, part-put}
+use Rattle.cells.proofs.Stores.{sets-append, sets-whole, part-put}
 
 -- What is left of n fields of w bytes, one turn on.
 pub left-step : (n i w : ℕ) → i < n → (n - i) * w ≡ w + (n - (i + 1)) * w

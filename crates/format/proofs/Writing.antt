@@ -1,46 +1,23 @@
--- Stores one behind the other, and how the writers' loops go on: what is left to write from byte i on ends where the whole does.
+-- How the writers' loops go on: what is left to write from byte i on ends where the whole does.
 use mathlib.Core.Path.{_≡_, refl, sym, ap, _∙_}
-use mathlib.Core.List.{List, [], _∷_, _++_, append-nil, append-assoc}
+use mathlib.Core.List.{List, [], _∷_, _++_}
 use Prim.Native.Nat.{ℕ, zero, suc, _+_, _-_, _*_, _/_, _%_, _<_, _≤_}
-use native.Mathlib.Nat.{add-zero}
 use native.Mathlib.Numerals.{add-one}
 use native.Mathlib.Omega.{arith}
-use borrow.Rule.Slice.PartMut.{putMid}
 use lib.ListN.{length, getD, drop, drop-of-length-le, set}
-use lib.Seq.{sets, sets-eq, drop-cons, drop-drop}
+use lib.Seq.{sets, drop-cons}
 use Rattle.cells.specs.Coding.{high, low, codedByte}
 use Rattle.cells.specs.declared.Mode.{Mode}
 use Rattle.cells.specs.declared.Mode.the-variants.{Fm, Mfm}
 use Rattle.cells.specs.declared.Pair.{Pair}
 use Rattle.edc.specs.Register.{bytesEntered, edcOf, edcBytes}
-use Rattle.edc.proofs.Laws.{bytes-append}
 use Rattle.layouts.specs.Layouts.{markBytes}
 use Rattle.marks.specs.Marks.{string, covered, registerAfter, markByte}
 use Rattle.marks.specs.declared.Mark.{Mark}
+use Rattle.cells.proofs.Stores.{sets-append}
+use Rattle.marks.proofs.Spelling.{register-all}
 use Rattle.format.proofs.Symbols.{image-mark, length-run, length-string}
 use Rattle.format.specs.Order.{Symbol, plain, mark as marked, image, run, pairs, bytes, checked}
-
--- ---- stores
-
--- Two runs of stores, one behind the other.
-pub sets-append : (l : List ℕ) (i : ℕ) (xs ys : List ℕ) → sets (sets l i xs) (i + length xs) ys ≡ sets l i (xs ++ ys)
-sets-append l i [] ys = rw (add-zero i)
-sets-append l i (x ∷ xs) ys =
-    let e : i + suc (length xs) ≡ suc i + length xs = omega arith in
-    rw e (sets-append (set l i x) (suc i) xs ys)
-
--- A run that fills the list is the list.
-pub sets-whole : (l vs : List ℕ) → length vs ≡ length l → sets l 0 vs ≡ vs
-sets-whole l vs e =
-    let h : 0 + length vs ≤ length l = omega arith in
-    let d : drop (0 + length vs) l ≡ [] = drop-of-length-le l {i = 0 + length vs} (omega arith) in
-    sets-eq vs l 0 h ∙ rw d (append-nil vs)
-
--- What was lent as the part from a to e, and filled with vs, comes back as the stores of vs from a on.
-pub part-put : (l ys vs : List ℕ) (a e : ℕ) → ys ≡ vs → a + length vs ≡ e → e ≤ length l → putMid a (e - a) l ys ≡ sets l a vs
-part-put l ys vs a e p q h =
-    let k : a + (e - a) ≡ a + length vs = omega arith in
-    sym (sets-eq vs l a (omega arith) ∙ rw (p, drop-drop (e - a) a l, k, append-assoc))
 
 -- ---- one byte more
 
@@ -111,11 +88,6 @@ edc-stored area one two at i mode a r p q xs h e f g k =
     let u : suc (suc (at + 2 * i)) ≡ at + 2 * i + 2 = omega arith in
     ap (λ (zs : List ℕ). sets area (at + 2 * i) (image mode a (bytes (zs ++ edcBytes r) []))) (drop-of-length-le xs h)
     ∙ rw (g, k, e, f, ← u)
-
--- The register of a mark and the bytes after it is the EDC of them all.
-pub register-all : (mode : Mode) (mark : Mark) (xs : List ℕ) → bytesEntered (registerAfter mode mark) xs ≡ edcOf (covered mode mark ++ xs)
-unfolding registerAfter edcOf
-register-all mode mark xs = sym (bytes-append 65535 (covered mode mark) xs)
 
 -- The whole field, from where the loop over its bytes ended: r is its register.
 module _ (mode : Mode) (mark : Mark) (xs area₀ area : List ℕ) (at i last₀ last first r : ℕ)

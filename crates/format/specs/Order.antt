@@ -2,7 +2,7 @@
 -- bit before. Each definition takes what follows it as its last argument, so that the track reads from the top to the bottom.
 use mathlib.Core.Bool.{cond}
 use mathlib.Core.List.{List, [], _∷_, _++_}
-use Prim.Native.Nat.{ℕ, zero, suc, _+_, _-_, _*_, _%_}
+use Prim.Native.Nat.{ℕ, zero, suc, _-_, _*_, _%_}
 use lib.Dec.{eqb}
 use lib.ListN.{getD, take, drop}
 use Rattle.cells.specs.Coding.{high, low}
@@ -53,11 +53,6 @@ markOf x = cond (eqb x controlMark) Control Data
 -- The part of the data that belongs to sector s: size bytes for each sector number from 1 on (01, "How a track is read": a slot for each).
 abbrev pub slot : ℕ → ℕ → List ℕ → List ℕ
 slot size s contents = take size (drop ((s - 1) * size) contents)
-
--- The numbers from s on, k of them: the natural order of the sectors (004, 5.2.2.2 and 6.2.2.2).
-abbrev pub numbers : ℕ → ℕ → List ℕ
-numbers zero s = []
-numbers (suc k) s = s ∷ numbers k (suc s)
 
 module _ (l : Layout) (cylinder side : ℕ) where
   -- A gap of k bytes.

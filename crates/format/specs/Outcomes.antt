@@ -3,12 +3,12 @@ use mathlib.Core.List.{List}
 use mathlib.Core.Path.{_≡_}
 use Prim.Native.Nat.{ℕ}
 use lib.ListN.{length}
-use Rattle.format.specs.Order.{formatted, numbers}
+use Rattle.format.specs.Order.{formatted}
 use Rattle.format.specs.Refusals.{formatTests}
 use Rattle.format.specs.declared.Formatted.{Formatted}
 use Rattle.format.specs.declared.Formatted.the-variants.{Written}
 use Rattle.format.specs.declared.Formatted.the-variants as formats
-use Rattle.layouts.specs.Layouts.{layoutOf}
+use Rattle.layouts.specs.Layouts.{layoutOf, numbers}
 use Rattle.layouts.specs.Refusals.{refusal, refusalNumber}
 use Rattle.layouts.specs.declared.Checked.{Checked}
 use Rattle.layouts.specs.declared.Checked.the-variants.{Passed, Refused}

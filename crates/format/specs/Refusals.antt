@@ -4,8 +4,7 @@ use mathlib.Core.List.{List, [], _∷_, _++_}
 use Prim.Native.Nat.{ℕ, _-_, _*_}
 use lib.Dec.{ltb, eqb}
 use lib.ListN.{length, getD}
-use Rattle.format.specs.Order.{numbers}
-use Rattle.layouts.specs.Layouts.{layoutOf, fields}
+use Rattle.layouts.specs.Layouts.{layoutOf, fields, numbers}
 use Rattle.layouts.specs.Refusals.{Test, areaTest, markTest, controlTest, trackTests}
 use Rattle.layouts.specs.declared.Layout.{Layout}
 use Rattle.layouts.specs.declared.Refusal.the-variants.{ImageLength, MarkBytes, ControlRecord, Overfull}

@@ -7,9 +7,8 @@ use layouts::Refusal;
 ghost use mathlib.Core.Path.{_≡_};
 ghost use Prim.Native.Nat.{_-_, _*_, _≤_};
 ghost use lib.ListN.{length, getD};
-ghost use Rattle.layouts.specs.Layouts.{fields, layoutOf};
+ghost use Rattle.layouts.specs.Layouts.{fields, layoutOf, numbers};
 ghost use Rattle.layouts.specs.Refusals.{markTest, controlTest, refusal, taken};
-ghost use Rattle.format.specs.Order.{numbers};
 ghost use Rattle.format.specs.Refusals.{some, fieldTests, formatTests};
 
 // Whether a mark is neither FB nor F8.

@@ -12,6 +12,7 @@ use Rattle.layouts.specs.declared.Refusal.{Refusal}
 use Rattle.layouts.specs.declared.Refusal.the-variants.{ImageLength, CylinderNumber, SideNumber, LayoutNumber, AreaLength, MarkBytes, ControlRecord, Overfull, SectorNumber, Unreadable, OffBoundary, Finished, NoBlock}
 use Rattle.layouts.specs.declared.Checked.{Checked}
 use Rattle.layouts.specs.declared.Checked.the-variants.{Passed, Refused}
+use Rattle.layouts.specs.declared.Chosen.{Chosen}
 use Rattle.layouts.specs.declared.Chosen.the-variants as chosen
 use Rattle.layouts.specs.Layouts.{highest}
 use Rattle.layouts.specs.Tracks.{highestCylinder, highestSide}
@@ -70,6 +71,14 @@ refusal-append-passed xs ys h = append xs ys ∙ ap (λ (x : Checked). orElse x 
 pub refusal-append-refused : (xs ys : List Test) (f : Refusal) → refusal xs ≡ Refused f → refusal (xs ++ ys) ≡ Refused f
 refusal-append-refused xs ys f h = append xs ys ∙ ap (λ (x : Checked). orElse x (refusal ys)) h
 
+-- Tests that are passed together are passed one list after the other.
+pub passed-both : (xs ys : List Test) → refusal (xs ++ ys) ≡ Passed → (refusal xs ≡ Passed) × (refusal ys ≡ Passed)
+passed-both xs ys e = go (refusal xs) refl
+  where
+    go : (r : Checked) → refusal xs ≡ r → (refusal xs ≡ Passed) × (refusal ys ≡ Passed)
+    go Passed p = (p, sym (refusal-append-passed xs ys p) ∙ e)
+    go (Refused f) p = let q = refusal-append-refused xs ys f p in let z : _≡_ {A = ℕ} 0 1 = cc in absurd (omega arith)
+
 -- Where tests pass, the first did not apply, and the rest pass.
 pub refusal-passed : (t : Test) (ts : List Test) → refusal (t ∷ ts) ≡ Passed → (t .applies ≡ false) × (refusal ts ≡ Passed)
 unfolding refusal
@@ -97,3 +106,24 @@ taken-passed l k (Refused f) h = let z : _≡_ {A = ℕ} 0 1 = cc in absurd (ome
 pub taken-refused : (l : Layout) (x : Checked) (f : Refusal) → taken l x ≡ chosen.Refused f → x ≡ Refused f
 taken-refused l Passed f h = cc
 taken-refused l (Refused g) f h = cc
+
+-- Where more tests follow those that took a layout: what was chosen stands, or the first refusal of all. The further tests are of that layout.
+module _ (l : Layout) (xs : List Test) (ys : Layout → List Test) (x : Chosen) (e : x ≡ taken l (refusal xs)) where
+  pub further-refused : (f : Refusal) → x ≡ chosen.Refused f → x ≡ taken l (refusal (xs ++ ys l))
+  further-refused f h = h ∙ sym (ap (taken l) (refusal-append-refused xs (ys l) f (taken-refused l (refusal xs) f (sym e ∙ h))))
+
+  module _ (k : Layout) (h : x ≡ chosen.Taken k) (y : Checked) (told : y ≡ refusal (ys k)) where
+    first-passed : refusal xs ≡ Passed
+    first-passed = taken-passed l k (refusal xs) (sym e ∙ h) .0
+
+    then-told : refusal (xs ++ ys l) ≡ y
+    then-told =
+        refusal-append-passed xs (ys l) first-passed
+        ∙ ap (λ (m : Layout). refusal (ys m)) (sym (taken-passed l k (refusal xs) (sym e ∙ h) .1))
+        ∙ sym told
+
+    pub further-passed : y ≡ Passed → chosen.Taken k ≡ taken l (refusal (xs ++ ys l))
+    further-passed p = sym h ∙ e ∙ ap (taken l) (first-passed ∙ sym (then-told ∙ p))
+
+    pub further-late : (f : Refusal) → y ≡ Refused f → chosen.Refused f ≡ taken l (refusal (xs ++ ys l))
+    further-late f p = sym (ap (taken l) (then-told ∙ p))

@@ -1,8 +1,8 @@
 -- The four layouts: the table of 01, "The image and the four layouts", and the counts of its "Order on the track".
 -- Gaps, fields and tracks are counted in data bytes, which take two image bytes each.
 use mathlib.Core.Path.{_≡_}
-use mathlib.Core.List.{[], _∷_}
-use Prim.Native.Nat.{ℕ, _+_, _*_}
+use mathlib.Core.List.{List, [], _∷_}
+use Prim.Native.Nat.{ℕ, zero, suc, _+_, _*_}
 use lib.ListN.{getD}
 use Rattle.cells.specs.declared.Mode.{Mode}
 use Rattle.cells.specs.declared.Mode.the-variants.{Fm, Mfm}
@@ -91,3 +91,12 @@ pub record Adds (l : Layout) : Type 0 where
   pub area : l .«area_bytes» ≡ l .sectors * l .size
   pub image : l .«image_bytes» ≡ 2 * l .«track_bytes»
   pub track : fields l ≡ l .«track_bytes»
+
+-- The most sectors that a layout has (01, "The image and the four layouts").
+abbrev pub mostSectors : ℕ
+mostSectors = 26
+
+-- The numbers from s on, k of them: the natural order of the sectors (004, 5.2.2.2 and 6.2.2.2).
+abbrev pub numbers : ℕ → ℕ → List ℕ
+numbers zero s = []
+numbers (suc k) s = s ∷ numbers k (suc s)

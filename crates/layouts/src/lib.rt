@@ -21,6 +21,9 @@ pub use table::Layout3;
 // The highest layout number.
 pub const HIGHEST: u32 = 3;
 
+// The most sectors that a layout has.
+pub const MOST_SECTORS: usize = 26;
+
 // The highest cylinder number.
 pub const HIGHEST_CYLINDER: u32 = 74;
 

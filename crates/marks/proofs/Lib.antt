@@ -3,3 +3,4 @@ pub mod Searching
 pub mod Begins
 pub mod Clash
 pub mod Telling
+pub mod Firsts

@@ -1,7 +1,7 @@
 -- Bytes that stand at a cell: how the code compares them, and what it means that they stand.
 use mathlib.Core.Path.{_≡_, refl, sym, ap, ap₂, _∙_}
 use mathlib.Core.Bool.{Bool, true, false, _&&_, and-eq-true-iff}
-use mathlib.Core.List.{List, [], _∷_}
+use mathlib.Core.List.{List, [], _∷_, _++_}
 use Prim.Native.Nat.{ℕ, _+_, _-_, _*_, _<_, _≤_}
 use native.Mathlib.Numerals.{add-one}
 use native.Mathlib.Omega.{arith}
@@ -12,7 +12,8 @@ use borrow.Author.Tests.{eq-eqb, ne-eqb, eqb-true, le-leb, lt-leb, leb-true}
 use Rattle.cells.specs.Cells.{cell, octet, dataByte}
 use Rattle.cells.specs.declared.Mode.{Mode}
 use Rattle.cells.specs.declared.Mode.the-variants.{Fm, Mfm}
-use Rattle.edc.specs.Register.{edcOf}
+use Rattle.edc.specs.Register.{bytesEntered, edcOf}
+use Rattle.edc.proofs.Laws.{bytes-append}
 use Rattle.marks.specs.Marks.{string, covered, registerAfter, spells, lies, stands}
 use Rattle.marks.specs.declared.Mark.{Mark}
 use Rattle.marks.specs.declared.Mark.the-variants.{Index, Identifier, Data, Control, Open}
@@ -163,3 +164,8 @@ stands-by m k c n p r e f g = rw (e, f) g
 pub register-by : {mode : Mode} {mark : Mark} (m : Mode) (k : Mark) (r : ℕ) → mode ≡ m → mark ≡ k → r ≡ edcOf (covered m k) → r ≡ registerAfter mode mark
 unfolding registerAfter
 register-by m k r e f g = rw (e, f) g
+
+-- The register of a mark and the bytes after it is the EDC of them all.
+pub register-all : (mode : Mode) (mark : Mark) (xs : List ℕ) → bytesEntered (registerAfter mode mark) xs ≡ edcOf (covered mode mark ++ xs)
+unfolding registerAfter edcOf
+register-all mode mark xs = sym (bytes-append 65535 (covered mode mark) xs)

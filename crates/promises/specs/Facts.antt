@@ -8,12 +8,12 @@ use lib.ListN.{length, getD, take, drop, replicate}
 use Rattle.cells.specs.Coding.{high, low}
 use Rattle.cells.specs.declared.Mode.{Mode}
 use Rattle.cells.specs.declared.Mode.the-variants.{Fm, Mfm}
-use Rattle.format.specs.Order.{Symbol, plain, mark, image, track, numbers}
+use Rattle.format.specs.Order.{Symbol, plain, mark, image, track}
 use Rattle.marks.specs.Marks.{string, markByte}
 use Rattle.marks.specs.declared.Mark.{Mark}
 use Rattle.marks.specs.declared.Mark.the-variants.{Index, Identifier, Data}
 use Rattle.layouts.specs.declared.Layout.{Layout}
-use Rattle.layouts.specs.Layouts.{layout0, layout1, layout2, layout3, fields}
+use Rattle.layouts.specs.Layouts.{layout0, layout1, layout2, layout3, fields, numbers}
 
 -- A fact: what is computed, and what the paper expects.
 pub record Fact : Type 0 where

@@ -6,9 +6,9 @@ use native.Mathlib.Nat.{zero-add, sub-zero}
 use native.Mathlib.Omega.{arith}
 use denote.Ref.{now}
 use lib.ListN.{length, getD}
+use Rattle.layouts.specs.Layouts.{numbers}
 use Rattle.layouts.specs.Refusals.{controlTest}
 use Rattle.layouts.proofs.Refusals.{refusal-passed}
-use Rattle.format.specs.Order.{numbers}
 use Rattle.format.specs.Refusals.{some}
 use Rattle.format.proofs.Judged.{one-refused, number-hit, number-miss, number-end, control-at}
 use Rattle.format.proofs.Turns.{left-step, next}

@@ -1,5 +1,9 @@
 -- `tested` meets its contract: the fields are tested after the track.
-use Rattle.format.proofs.Chosen.{taken-usable, chosen-refused, chosen-passed, chosen-late}
+use denote.Ref.{now}
+use Rattle.layouts.specs.declared.Layout.{Layout}
+use Rattle.layouts.proofs.Refusals.{further-refused, further-passed, further-late}
+use Rattle.format.specs.Refusals.{fieldTests, formatTests}
+use Rattle.format.proofs.Chosen.{taken-usable}
 use borrow.Author.Needs.{needs}
 use Rattle.format.proofs.tests.tested.Statement.{statement}
 use Rattle.format.proofs.tests.tested.Tie as tie
@@ -14,7 +18,10 @@ enum-told : tie.Need-enum-told
 enum-told c = search needs
 
 returns : tie.Need-returns
-returns c = chosen-refused _ _ _ _ (c .before .before .on-track .ensures) _ _ _ _ (c .enum-told .given .1)
+unfolding formatTests
+returns c =
+    let a = c .before .before .before .before .before .args in
+    further-refused _ _ (λ (l : Layout). fieldTests l (a .cylinder) (now (a .contents)) (now (a .marks)) (a .length)) _ (c .before .before .on-track .ensures) _ (c .enum-told .given .1)
 
 field-tests-requires : tie.Need-field-tests-requires
 field-tests-requires c κs =
@@ -28,14 +35,18 @@ enum-told-2 : tie.Need-enum-told-2
 enum-told-2 c = search needs
 
 returns-2 : tie.Need-returns-2
+unfolding formatTests
 returns-2 c =
     let k = c .before .before .before .before in
-    chosen-passed _ _ _ _ (k .before .before .on-track .ensures) _ _ _ _ (k .chosen .given .1) _ (c .before .before .field-tests .ensures) (c .enum-told2 .given .1)
+    let a = k .before .before .before .before .before .args in
+    further-passed _ _ (λ (l : Layout). fieldTests l (a .cylinder) (now (a .contents)) (now (a .marks)) (a .length)) _ (k .before .before .on-track .ensures) _ (k .chosen .given .1) _ (c .before .before .field-tests .ensures) (c .enum-told2 .given .1)
 
 returns-3 : tie.Need-returns-3
+unfolding formatTests
 returns-3 c =
     let k = c .before .before .before .before .before in
-    chosen-late _ _ _ _ (k .before .before .on-track .ensures) _ _ _ _ (k .chosen .given .1) _ (c .before .before .before .field-tests .ensures) _ (c .before .refusal .given .1)
+    let a = k .before .before .before .before .before .args in
+    further-late _ _ (λ (l : Layout). fieldTests l (a .cylinder) (now (a .contents)) (now (a .marks)) (a .length)) _ (k .before .before .on-track .ensures) _ (k .chosen .given .1) _ (c .before .before .before .field-tests .ensures) _ (c .before .refusal .given .1)
 
 pub tested-spec : {M : Type 1} → statement M
 tested-spec =

@@ -8,8 +8,7 @@ use native.Mathlib.Nat.{sub-zero, zero-add}
 use denote.Ref.{now}
 use lib.ListN.{length}
 use lib.Seq.{sets}
-use Rattle.layouts.specs.Layouts.{sectorFields}
-use Rattle.format.specs.Order.{numbers}
+use Rattle.layouts.specs.Layouts.{sectorFields, numbers}
 use Rattle.format.proofs.Parts.{leader, stretches}
 use Rattle.format.proofs.Turns.{left-step, left-none, next, fields-whole, fields-room, sector-room, sectors-turn, track-done}
 use Rattle.format.proofs.track.write_track.Statement.{statement}
