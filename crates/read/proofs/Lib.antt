@@ -1,0 +1,12 @@
+pub mod Ways
+pub mod Walking
+pub mod Events
+pub mod Sectors
+pub mod States
+pub mod Addresses
+pub mod Stepping
+pub mod Filling
+pub mod Answering
+pub mod Locating
+pub mod Passing
+pub mod Picking

@@ -1,0 +1,152 @@
+-- `read_track` meets its contract: each turn of its loop is a round of the walk.
+use borrow.Author.Needs.{needs}
+use mathlib.Core.Path.{_≡_, sym, ap, _∙_}
+use Prim.Native.Nat.{_+_, _-_, _*_, _≤_}
+use native.Mathlib.Omega.{arith}
+use denote.Ref.{now}
+use lib.ListN.{length, length-replicate}
+use Rattle.cells.specs.Cells.{cell}
+use Rattle.read.specs.Walk.{walk, events}
+use Rattle.read.specs.Turns.{blank}
+use Rattle.read.proofs.States.{State, state-start, state-left, state-bad, state-foreign, state-accepted, state-end}
+use Rattle.read.proofs.Walking.{walk-past, walk-ends, walk-all, turn-left, turn-onward, turn-accepted}
+use Rattle.read.proofs.tracks.read_track.Statement.{statement}
+use Rattle.read.proofs.tracks.read_track.Tie as tie
+
+abbrev Inv-loop : tie.InvT-loop
+Inv-loop layout cylinder side image area₀ records₀ bad₀ foreign₀ place₀ end area records bad foreign place =
+    (place ≤ 8 * length image) × (bad + foreign ≤ place) × (length area ≡ layout .sectors * layout .size)
+    × State layout (cell image) (8 * length image) (events layout cylinder side (cell image) (8 * length image)) (walk layout cylinder side (cell image) (8 * length image) (8 * length image - place) place) (records .list) area bad foreign
+
+abbrev μ-loop : tie.MeasureT-loop
+μ-loop layout cylinder side image area₀ records₀ bad₀ foreign₀ place₀ end area records bad foreign place =
+    8 * length image - place
+
+mul-end : tie.Need-mul-end Inv-loop μ-loop
+mul-end c = search needs
+
+loop-holds : tie.Need-loop-holds Inv-loop μ-loop
+loop-holds c =
+    let s = c .before .before .pre in
+    (search needs, search needs, ap length (s .2) ∙ length-replicate _ 0, state-start _ _ _ _ _ _ (walk-all _ _ _ _ _) (s .2))
+
+next-round-requires : tie.Need-next-round-requires Inv-loop μ-loop
+next-round-requires c κs = search needs
+
+enum-told : tie.Need-enum-told Inv-loop μ-loop
+enum-told c = search needs
+
+loop-less : tie.Need-loop-less Inv-loop μ-loop
+loop-less c = search needs
+
+loop-again : tie.Need-loop-again Inv-loop μ-loop
+loop-again c =
+    let l = c .before .before .before .before .loop in (
+      search needs,
+      omega (arith, l .inv .0, l .inv .1),
+      l .inv .2,
+      state-left _ _ _ (l .inv .3) (walk-ends _ _ _ _ _ _ _ (c .before .before .before .loop-test .taken) (c .before .before .next-round .ensures) (c .enum-told .given .1)),
+    )
+
+enum-known-round : tie.Need-enum-known-round Inv-loop μ-loop
+enum-known-round c = search needs
+
+enum-told-2 : tie.Need-enum-told-2 Inv-loop μ-loop
+enum-told-2 c = search needs
+
+add-bad : tie.Need-add-bad Inv-loop μ-loop
+add-bad c = search needs
+
+enum-told-3 : tie.Need-enum-told-3 Inv-loop μ-loop
+enum-told-3 c = search needs
+
+add-foreign : tie.Need-add-foreign Inv-loop μ-loop
+add-foreign c = search needs
+
+enum-known-event : tie.Need-enum-known-event Inv-loop μ-loop
+enum-known-event c = search needs
+
+enter-requires : tie.Need-enter-requires Inv-loop μ-loop
+enter-requires c κs =
+    let s = c .before .before .before .before .before .before .before .before .before .before .before .before .pre in
+    let few : 8 * length (now (c .before .before .before .before .before .before .before .before .before .before .before .before .args .image)) ≤ 2147483648 = omega (arith, s .0) in
+    let k = turn-accepted _ _ _ _ _ _ _ _ _ _ _ (c .before .before .before .before .before .before .before .next-round .ensures) (c .before .before .before .before .before .round .given .1) (c .before .before .event .given .1) few in
+    (s .0, s .1, k .0, k .1, k .2, c .before .before .before .before .before .before .before .before .before .loop .inv .2)
+
+loop-less-2 : tie.Need-loop-less-2 Inv-loop μ-loop
+loop-less-2 c =
+    let o = turn-onward _ _ _ _ _ _ _ _ _ _ (c .before .before .before .before .before .next-round .ensures) (c .before .before .before .round .given .1) (c .enum-told2 .given .1) in
+    omega (arith, o .0, o .1)
+
+loop-again-2 : tie.Need-loop-again-2 Inv-loop μ-loop
+loop-again-2 c =
+    let l = c .before .before .before .before .before .before .before .loop in
+    let o = turn-onward _ _ _ _ _ _ _ _ _ _ (c .before .before .before .before .before .next-round .ensures) (c .before .before .before .round .given .1) (c .enum-told2 .given .1) in
+    (o .1, omega (arith, o .0, l .inv .1), l .inv .2, state-bad _ _ _ (l .inv .3) (turn-left _ _ _ _ _ _ _ _ _ _ (c .before .before .before .before .before .next-round .ensures) (c .before .before .before .round .given .1) (c .enum-told2 .given .1) (c .before .before .before .before .before .before .loop-test .taken)))
+
+loop-less-3 : tie.Need-loop-less-3 Inv-loop μ-loop
+loop-less-3 c =
+    let o = turn-onward _ _ _ _ _ _ _ _ _ _ (c .before .before .before .before .before .next-round .ensures) (c .before .before .before .round .given .1) (c .enum-told3 .given .1) in
+    omega (arith, o .0, o .1)
+
+loop-again-3 : tie.Need-loop-again-3 Inv-loop μ-loop
+loop-again-3 c =
+    let l = c .before .before .before .before .before .before .before .loop in
+    let o = turn-onward _ _ _ _ _ _ _ _ _ _ (c .before .before .before .before .before .next-round .ensures) (c .before .before .before .round .given .1) (c .enum-told3 .given .1) in
+    (o .1, omega (arith, o .0, l .inv .1), l .inv .2, state-foreign _ _ _ (l .inv .3) (turn-left _ _ _ _ _ _ _ _ _ _ (c .before .before .before .before .before .next-round .ensures) (c .before .before .before .round .given .1) (c .enum-told3 .given .1) (c .before .before .before .before .before .before .loop-test .taken)))
+
+loop-less-4 : tie.Need-loop-less-4 Inv-loop μ-loop
+loop-less-4 c =
+    let o = turn-onward _ _ _ _ _ _ _ _ _ _ (c .before .before .before .before .before .before .before .before .before .before .next-round .ensures) (c .before .before .before .before .before .before .before .before .round .given .1) (c .before .before .before .before .before .event .given .1) in
+    omega (arith, o .0, o .1)
+
+loop-again-4 : tie.Need-loop-again-4 Inv-loop μ-loop
+loop-again-4 c =
+    let s = c .before .before .before .before .before .before .before .before .before .before .before .before .before .before .before .pre in
+    let few : 8 * length (now (c .before .before .before .before .before .before .before .before .before .before .before .before .before .before .before .args .image)) ≤ 2147483648 = omega (arith, s .0) in
+    let l = c .before .before .before .before .before .before .before .before .before .before .before .before .loop in
+    let o = turn-onward _ _ _ _ _ _ _ _ _ _ (c .before .before .before .before .before .before .before .before .before .before .next-round .ensures) (c .before .before .before .before .before .before .before .before .round .given .1) (c .before .before .before .before .before .event .given .1) in
+    let k = turn-accepted _ _ _ _ _ _ _ _ _ _ _ (c .before .before .before .before .before .before .before .before .before .before .next-round .ensures) (c .before .before .before .before .before .before .before .before .round .given .1) (c .before .before .before .before .before .event .given .1) few in
+    let e = c .before .before .enter in (
+      o .1,
+      omega (arith, o .0, l .inv .1),
+      e .kept .1 .1 .1 .1 .1 .0 ∙ l .inv .2,
+      state-accepted _ _ _ (l .inv .3) _ _ blank (turn-left _ _ _ _ _ _ _ _ _ _ (c .before .before .before .before .before .before .before .before .before .before .next-round .ensures) (c .before .before .before .before .before .before .before .before .round .given .1) (c .before .before .before .before .before .event .given .1) (c .before .before .before .before .before .before .before .before .before .before .before .loop-test .taken)) (s .1 .1) (k .0) (k .1) (e .ensures .0) (e .ensures .1),
+    )
+
+same-length : tie.Need-same-length Inv-loop μ-loop
+same-length c = c .before .loop .inv .2 ∙ sym (ap length (c .before .before .before .before .pre .2) ∙ length-replicate _ 0)
+
+returns : tie.Need-returns Inv-loop μ-loop
+returns c =
+    let l = c .before .loop in
+    let z = state-end _ _ _ (l .inv .3) (walk-past _ _ _ _ _ _ _ (c .loop-test .left)) in
+    (rw (← z .0, ← z .2, ← z .3), z .1)
+
+pub read-track-spec : {M : Type 1} → statement M
+read-track-spec =
+    tie.close
+    (tie.spec
+    Inv-loop
+    μ-loop
+    mul-end
+    loop-holds
+    next-round-requires
+    enum-told
+    loop-less
+    loop-again
+    enum-known-round
+    enum-told-2
+    add-bad
+    enum-told-3
+    add-foreign
+    enum-known-event
+    enter-requires
+    loop-less-2
+    loop-again-2
+    loop-less-3
+    loop-again-3
+    loop-less-4
+    loop-again-4
+    same-length
+    returns)

@@ -1,0 +1,5 @@
+pub mod Walk
+pub mod Answers
+pub mod Turns
+pub mod Outcomes
+pub mod Picks
