@@ -13,7 +13,13 @@ use Rattle.layouts.specs.declared.Refusal.{Refusal}
 use Rattle.marks.specs.Outcomes.{TellsStanding, IsRegisterAfter, IsFirstMark}
 use Rattle.marks.specs.declared.Mark.{Mark}
 use Rattle.marks.specs.declared.Kinds.{Kinds}
-use Rattle.station.specs.Outcomes.{GivesEdc, GivesCoded, GivesDataByte, GivesFormat}
+use Rattle.read.specs.Outcomes.{IsFaultNumber, IsAnswerNumber, Reads, Locates}
+use Rattle.read.specs.Picks.{IsPicked, IsStretch}
+use Rattle.read.specs.declared.Fault.{Fault}
+use Rattle.read.specs.declared.Answer.{Answer}
+use Rattle.read.specs.declared.Records.{Records}
+use Rattle.read.specs.declared.Reading.{Reading}
+use Rattle.station.specs.Outcomes.{GivesEdc, GivesCoded, GivesDataByte, GivesFormat, GivesRead}
 use Rattle.promises.specs.Unique.{Unique}
 
 -- A relation that gives the outcome as a value.
@@ -102,6 +108,27 @@ format layout cylinder side contents marks before x y p q = by-values _ _ x y (p
 pub formatted-number : (answer : Formatted) → Unique (IsFormattedNumber answer)
 formatted-number answer = by-value _
 
+-- ---- read
+
+pub fault-number : (fault : Fault) → Unique (IsFaultNumber fault)
+fault-number fault = by-value _
+
+pub answer-number : (answer : Answer) → Unique (IsAnswerNumber answer)
+answer-number answer = by-value _
+
+pub read : (layout cylinder side : ℕ) (image : List ℕ) (given : ℕ)
+    → Unique (λ (o : Reading × List ℕ). Reads layout cylinder side image given (o .0) (o .1))
+read layout cylinder side image given x y p q = by-values _ _ x y (p .answers, p .leaves) (q .answers, q .leaves)
+
+pub locate : (layout cylinder side sector : ℕ) (image : List ℕ) → Unique (Locates layout cylinder side sector image)
+locate layout cylinder side sector image = by-value _
+
+pub picked : (layout sector : ℕ) (first : List ℕ) (one : Records) (second : List ℕ) (two : Records) → Unique (IsPicked layout sector first one second two)
+picked layout sector first one second two = by-value _
+
+pub pick : (layout sector : ℕ) (first : List ℕ) (one : Records) (second : List ℕ) (two : Records) → Unique (IsStretch layout sector first one second two)
+pick layout sector first one second two = by-value _
+
 -- ---- station
 
 pub station-edc : (bytes : List ℕ) → Unique (GivesEdc bytes)
@@ -117,3 +144,13 @@ station-data-byte image place = by-value _
 pub station-format : (layout cylinder side : ℕ) (contents marks before : List ℕ)
     → Unique (λ (o : ℕ × List ℕ). GivesFormat layout cylinder side contents marks before (o .0) (o .1))
 station-format layout cylinder side contents marks before x y p q = by-values _ _ x y (p .answers, p .leaves) (q .answers, q .leaves)
+
+-- A number and three areas at exit.
+all-four : {A B C D : Type 0} {a a′ : A} {b b′ : B} {c c′ : C} {d d′ : D} → a ≡ a′ → b ≡ b′ → c ≡ c′ → d ≡ d′
+    → _≡_ {A = A × B × C × D} (a, b, c, d) (a′, b′, c′, d′)
+all-four p q r s = rw (p, q, r, s)
+
+pub station-read : (layout cylinder side : ℕ) (image : List ℕ) (given : ℕ)
+    → Unique (λ (o : ℕ × List ℕ × List ℕ × List ℕ). GivesRead layout cylinder side image given (o .0) (o .1) (o .2) (o .3))
+station-read layout cylinder side image given x y p q =
+    all-four (p .numbered ∙ sym (q .numbered)) (p .leaves ∙ sym (q .leaves)) (p .answered ∙ sym (q .answered)) (p .counted ∙ sym (q .counted))

@@ -1,17 +1,25 @@
 -- What each exported function promises to C and Rust. No rule of the papers stands here: each cites the crate that owns it.
-use mathlib.Core.List.{List}
+use mathlib.Core.Bool.{cond}
+use mathlib.Core.List.{List, [], _∷_, map}
 use mathlib.Core.Path.{_≡_}
-use Prim.Native.Nat.{ℕ, _+_, _*_}
-use lib.ListN.{length}
+use Prim.Native.Nat.{ℕ, _+_, _-_, _*_}
+use lib.Dec.{leb}
+use lib.ListN.{length, getD}
 use Rattle.cells.specs.Cells.{cell, dataByte}
 use Rattle.cells.specs.Coding.{high, low}
 use Rattle.cells.specs.declared.Mode.{Mode}
 use Rattle.edc.specs.Register.{edcOf}
-use Rattle.format.specs.Order.{formatted, numbers}
+use Rattle.format.specs.Order.{formatted}
 use Rattle.format.specs.Outcomes.{answered, left, formattedNumber}
 use Rattle.format.specs.Refusals.{formatTests}
-use Rattle.layouts.specs.Layouts.{layoutOf}
-use Rattle.layouts.specs.Refusals.{refusal}
+use Rattle.layouts.specs.Layouts.{layoutOf, mostSectors, numbers}
+use Rattle.layouts.specs.Refusals.{refusal, refusalNumber}
+use Rattle.layouts.specs.declared.Checked.{Checked}
+use Rattle.layouts.specs.declared.Checked.the-variants.{Passed, Refused}
+use Rattle.read.specs.Answers.{answerNumber}
+use Rattle.read.specs.Outcomes.{readAnswer, readArea}
+use Rattle.read.specs.Turns.{blank}
+use Rattle.read.specs.declared.Record.{Record}
 
 -- `station_edc` answers the EDC of the bytes.
 abbrev pub GivesEdc : List ℕ → ℕ → Type 0
@@ -33,3 +41,25 @@ pub record GivesFormat (layout cylinder side : ℕ) (contents marks before : Lis
       after
       ≡ left (refusal (formatTests layout cylinder side contents marks (length before))) before
       (formatted (layoutOf layout) cylinder side contents marks (numbers (layoutOf layout .sectors) 1))
+
+-- The number of a verdict: 0, or the refusal's (01, "Refused calls").
+abbrev pub verdictNumber : Checked → ℕ
+verdictNumber Passed = 0
+verdictNumber (Refused f) = refusalNumber f
+
+-- The papers' number for sector s, or 0 past the count (01, "How a track is read").
+unfoldable pub answerAt : ℕ → List Record → ℕ → ℕ
+answerAt count records s = cond (leb s count) (answerNumber (getD records (s - 1) blank .answer)) 0
+
+-- The numbers by sector.
+unfoldable pub answerList : ℕ → List Record → List ℕ
+answerList count records = map (answerAt count records) (numbers mostSectors 1)
+
+-- `station_read` gives the verdict's number, the answers by sector, the two counts, and what the read leaves in the area.
+pub record GivesRead (layout cylinder side : ℕ) (image : List ℕ) (given number : ℕ) (area answers counts : List ℕ) : Type 0 where
+  pub numbered : number ≡ verdictNumber (readAnswer layout cylinder side image given .verdict)
+  pub leaves : area ≡ readArea layout cylinder side image given
+  pub answered :
+      answers ≡ answerList (readAnswer layout cylinder side image given .sectors) (readAnswer layout cylinder side image given .records .list)
+  pub counted :
+      counts ≡ readAnswer layout cylinder side image given .bad ∷ readAnswer layout cylinder side image given .foreign ∷ []

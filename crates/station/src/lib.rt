@@ -1,10 +1,14 @@
 // The library for C and Rust: thin functions over the crates that own the rules.
 use cells::Mode;
+use layouts::Checked;
+use read::Records;
 ghost use mathlib.Core.Path.{_≡_};
-ghost use Prim.Native.Nat.{_+_, _*_};
+ghost use mathlib.Core.List.{[], _∷_};
+ghost use Prim.Native.Nat.{_+_, _*_, _<_};
+ghost use lib.ListN.{length};
 ghost use Rattle.cells.specs.Coding.{high, low};
 ghost use Rattle.cells.specs.declared.Mode.the-variants.{Fm, Mfm};
-ghost use Rattle.station.specs.Outcomes.{GivesEdc, GivesCoded, GivesDataByte, GivesFormat};
+ghost use Rattle.station.specs.Outcomes.{GivesEdc, GivesCoded, GivesDataByte, GivesFormat, GivesRead, verdictNumber, answerAt, answerList};
 
 // The EDC of the bytes, with the register all ones at the start.
 #[no_mangle]
@@ -61,4 +65,70 @@ pub extern "C" fn station_format(
 {
     let answer = format::format(layout, cylinder, side, data, marks, image);
     format::formatted_number(answer)
+}
+
+// The number of a verdict: 0, or the refusal's.
+fn verdict_number(verdict: Checked) -> u8
+    ensures { λ r. ⌜ r ≡ verdictNumber verdict ⌝ }
+{
+    match verdict {
+        Checked::Passed => 0,
+        Checked::Refused(refusal) => layouts::refusal_number(refusal),
+    }
+}
+
+// The number of the answer at an index, or 0 past the count.
+fn answer_at(count: usize, records: Records, index: usize) -> u8
+    requires { ⌜ index < 26 ⌝ }
+    ensures { λ r. ⌜ r ≡ answerAt count (records .list) (index + 1) ⌝ }
+{
+    if index < count {
+        let record = records.list[index];
+        let answer = record.answer;
+        return read::answer_number(answer);
+    }
+    0
+}
+
+// The numbers of the answers by sector, and 0 past the count.
+fn list_answers(count: usize, records: Records, answers: &mut [u8])
+    requires { ⌜ length (now answers) ≡ 26 ⌝ }
+    ensures { λ _. ⌜ now (answers .exit) ≡ answerList count (records .list) ⌝ }
+{
+    let mut i = 0;
+    while i < answers.len() {
+        answers[i] = answer_at(count, records, i);
+        i += 1;
+    }
+}
+
+// Stores both counts.
+fn list_counts(bad: u32, foreign: u32, counts: &mut [u32])
+    requires { ⌜ length (now counts) ≡ 2 ⌝ }
+    ensures { λ _. ⌜ now (counts .exit) ≡ bad ∷ foreign ∷ [] ⌝ }
+{
+    counts[0] = bad;
+    counts[1] = foreign;
+}
+
+// Reads a track: 0, or the number of the refusal. `area` gets a slot for each sector number, `answers` the papers' numbers by sector and 0 past
+// the layout's count, `counts` the bad and the foreign identifiers. A refused read leaves zeros in all three.
+#[no_mangle]
+pub extern "C" fn station_read(
+    layout: u32,
+    cylinder: u32,
+    side: u32,
+    image: &[u8],
+    area: &mut [u8],
+    answers: &mut [u8; 26],
+    counts: &mut [u32; 2],
+) -> u8
+    ensures { λ r. ⌜ GivesRead layout cylinder side (now (image .entry)) (length (now (area .entry))) r (now (area .exit)) (now (answers .exit)) (now (counts .exit)) ⌝ }
+{
+    let reading = read::read(layout, cylinder, side, image, area);
+    let records = reading.records;
+    let verdict = reading.verdict;
+    list_answers(reading.sectors, records, answers);
+    list_counts(reading.bad, reading.foreign, counts);
+    verdict_number(verdict)
 }
