@@ -1,5 +1,6 @@
 #!/bin/sh
 # usage: harness/run.sh [test WORDS.. | bench [--steps]]: the Rattle library from Rust, native on x86-64, emulated on Arm
+#        harness/run.sh vectors: writes vectors/ and samples/ anew, by the reference alone
 # Exit status 77: the compiler that this machine lacks cannot be had; nothing was compared.
 set -eu
 here=$(cd "$(dirname "$0")" && pwd -P) name=station target=x86_64-unknown-linux-gnu
@@ -41,5 +42,6 @@ what=${1:-test} && [ $# -eq 0 ] || shift
 case $what in
 test) exec cargo test --offline --tests --target $target "$@" ;;
 bench) exec cargo run --offline --release --target $target --bin bench -- "$@" ;;
-*) echo "usage: $0 [test WORDS.. | bench [--steps]]" >&2; exit 2 ;;
+vectors) exec cargo run --offline --release --target $target --bin vectors -- "$here/.." ;;
+*) echo "usage: $0 [test WORDS.. | bench [--steps] | vectors]" >&2; exit 2 ;;
 esac

@@ -3,3 +3,4 @@
 pub mod reference;
 pub mod rng;
 pub mod station;
+pub mod tracks;

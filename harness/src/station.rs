@@ -18,6 +18,17 @@ mod exported {
             image: *mut u8,
             image_len: usize,
         ) -> u8;
+        pub fn station_read(
+            layout: u32,
+            cylinder: u32,
+            side: u32,
+            image: *const u8,
+            image_len: usize,
+            area: *mut u8,
+            area_len: usize,
+            answers: *mut [u8; 26],
+            counts: *mut [u32; 2],
+        ) -> u8;
     }
 }
 
@@ -60,6 +71,34 @@ pub fn format(layout: u32, cylinder: u32, side: u32, data: &[u8], marks: &[u8], 
             marks.len(),
             image.as_mut_ptr(),
             image.len(),
+        )
+    }
+}
+
+/// Reads a track. 0: slots and answers stand by sector number, the answers past the layout's count are 0, the counts
+/// are those of bad and foreign identifiers. Else the number of the refusal, and all that was lent is zero.
+pub fn read(
+    layout: u32,
+    cylinder: u32,
+    side: u32,
+    image: &[u8],
+    area: &mut [u8],
+    answers: &mut [u8; 26],
+    counts: &mut [u32; 2],
+) -> u8 {
+    // SAFETY: each pointer and length are those of one live slice or array; `image` is only read, and the others, which
+    // are written, overlap neither it nor each other; every number is taken.
+    unsafe {
+        exported::station_read(
+            layout,
+            cylinder,
+            side,
+            image.as_ptr(),
+            image.len(),
+            area.as_mut_ptr(),
+            area.len(),
+            answers,
+            counts,
         )
     }
 }

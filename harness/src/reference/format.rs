@@ -2,29 +2,9 @@
 //! one pass over the image, field after field.
 use super::coding::{code, Mode};
 use super::edc::{continued, edc};
+use super::layouts::{of_track, Layout};
+use super::marks::{self, Mark, Marks};
 use std::mem::take;
-
-/// A row of 01's table, and the gaps in which the layouts of one mode differ.
-struct Layout {
-    mode: Mode,
-    sectors: usize,
-    /// N, the data bytes of a sector.
-    size: usize,
-    /// The 4th address byte.
-    fourth: u8,
-    /// After each data block.
-    block_gap: usize,
-    /// After the last sector.
-    track_gap: usize,
-    track_bytes: usize,
-}
-
-const LAYOUTS: [Layout; 4] = [
-    Layout { mode: Mode::Fm, sectors: 26, size: 128, fourth: 0, block_gap: 27, track_gap: 247, track_bytes: 5_208 },
-    Layout { mode: Mode::Mfm, sectors: 26, size: 256, fourth: 1, block_gap: 54, track_gap: 598, track_bytes: 10_416 },
-    Layout { mode: Mode::Mfm, sectors: 15, size: 512, fourth: 2, block_gap: 84, track_gap: 400, track_bytes: 10_416 },
-    Layout { mode: Mode::Mfm, sectors: 8, size: 1_024, fourth: 3, block_gap: 116, track_gap: 654, track_bytes: 10_416 },
-];
 
 /// What all layouts of one mode share. A mark takes `MARK` image bytes.
 struct Order<const MARK: usize> {
@@ -36,16 +16,7 @@ struct Order<const MARK: usize> {
     identifier_gap: usize,
     /// The (00)-bytes before each mark.
     zeros: usize,
-    index: Mark<MARK>,
-    identifier: Mark<MARK>,
-    data: Mark<MARK>,
-    control: Mark<MARK>,
-}
-
-/// A mark's image bytes, as 01's table has them, and the bytes that they stand for, which the EDC covers.
-struct Mark<const MARK: usize> {
-    image: [u8; MARK],
-    bytes: &'static [u8],
+    marks: Marks<MARK>,
 }
 
 /// 004, clause 5.
@@ -56,10 +27,7 @@ const FM: Order<2> = Order {
     after_index: 26,
     identifier_gap: 11,
     zeros: 6,
-    index: Mark { image: [0xF7, 0x7A], bytes: &[0xFC] },
-    identifier: Mark { image: [0xF5, 0x7E], bytes: &[0xFE] },
-    data: Mark { image: [0xF5, 0x6F], bytes: &[0xFB] },
-    control: Mark { image: [0xF5, 0x6A], bytes: &[0xF8] },
+    marks: marks::FM,
 };
 
 /// 004, clause 6.
@@ -70,10 +38,7 @@ const MFM: Order<8> = Order {
     after_index: 50,
     identifier_gap: 22,
     zeros: 12,
-    index: Mark { image: [0x52, 0x24, 0x52, 0x24, 0x52, 0x24, 0x55, 0x52], bytes: &[0xC2, 0xC2, 0xC2, 0xFC] },
-    identifier: Mark { image: [0x44, 0x89, 0x44, 0x89, 0x44, 0x89, 0x55, 0x54], bytes: &[0xA1, 0xA1, 0xA1, 0xFE] },
-    data: Mark { image: [0x44, 0x89, 0x44, 0x89, 0x44, 0x89, 0x55, 0x45], bytes: &[0xA1, 0xA1, 0xA1, 0xFB] },
-    control: Mark { image: [0x44, 0x89, 0x44, 0x89, 0x44, 0x89, 0x55, 0x4A], bytes: &[0xA1, 0xA1, 0xA1, 0xF8] },
+    marks: marks::MFM,
 };
 
 /// The marks that a caller names.
@@ -86,20 +51,14 @@ const LETTER_D: u8 = 0x44;
 /// Writes the track, data and marks by sector number. Answers 0, or the number of the refusal, which leaves the image
 /// as it was.
 pub fn format(layout: u32, cylinder: u32, side: u32, data: &[u8], marks: &[u8], image: &mut [u8]) -> u8 {
-    if cylinder > 74 {
-        return 2;
-    }
-    if side > 1 {
-        return 3;
-    }
-    if !is_allowed(layout, cylinder, side) {
-        return 4;
-    }
-    let layout = &LAYOUTS[layout as usize];
-    if image.len() != 2 * layout.track_bytes {
+    let layout = match of_track(layout, cylinder, side) {
+        Ok(layout) => layout,
+        Err(number) => return number,
+    };
+    if image.len() != layout.image_bytes() {
         return 1;
     }
-    if data.len() != layout.sectors * layout.size {
+    if data.len() != layout.area_bytes() {
         return 5;
     }
     if marks.len() != layout.sectors || !marks.iter().all(|&mark| mark == DATA || mark == CONTROL) {
@@ -112,15 +71,6 @@ pub fn format(layout: u32, cylinder: u32, side: u32, data: &[u8], marks: &[u8], 
     match layout.mode {
         Mode::Fm => FM.write(layout, &contents, image),
         Mode::Mfm => MFM.write(layout, &contents, image),
-    }
-}
-
-/// For cylinders 0 to 74 and sides 0 and 1.
-fn is_allowed(layout: u32, cylinder: u32, side: u32) -> bool {
-    match (cylinder, side) {
-        (0, 0) => layout == 0,
-        (0, _) => layout == 1,
-        _ => (1..=3).contains(&layout),
     }
 }
 
@@ -153,19 +103,21 @@ impl<const MARK: usize> Order<MARK> {
         if 2 * self.fields(layout) > image.len() {
             return 8;
         }
+        let marks = &self.marks;
         // what the marks leave in the register, once for all sectors
-        let [identifier, data, control] = [&self.identifier, &self.data, &self.control].map(|mark| edc(mark.bytes));
+        let (identifier, data) = (edc(marks.identifier.bytes), edc(marks.data.bytes));
+        let control = edc(marks.control.bytes);
 
         // the bit before the track's first is taken as ZERO
         let mut track = Track { rest: image, mode: self.mode, last: 0x00 };
         track.run(self.before_index, self.gap);
-        track.mark(self.zeros, &self.index);
+        track.mark(self.zeros, &marks.index);
         track.run(self.after_index, self.gap);
         for (number, (bytes, mark)) in (1..).zip(contents.sectors()) {
-            track.mark(self.zeros, &self.identifier);
+            track.mark(self.zeros, &marks.identifier);
             track.covered(identifier, &[contents.cylinder, contents.side, number, layout.fourth]);
             track.run(self.identifier_gap, self.gap);
-            let (mark, register) = if mark == CONTROL { (&self.control, control) } else { (&self.data, data) };
+            let (mark, register) = if mark == CONTROL { (&marks.control, control) } else { (&marks.data, data) };
             track.mark(self.zeros, mark);
             track.covered(register, bytes);
             track.run(layout.block_gap, self.gap);
@@ -218,6 +170,7 @@ impl<'a> Track<'a> {
     }
 
     /// Bytes and their EDC, the register being what the mark left in it.
+    #[inline(always)] // the address and the data each get code for their length
     fn covered(&mut self, register: u16, bytes: &[u8]) {
         self.bytes(bytes);
         self.bytes(&continued(register, bytes).to_be_bytes());

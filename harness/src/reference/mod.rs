@@ -1,4 +1,11 @@
 //! The papers' rules once more in Rust: written from document 01 and ISO 7065-2 ("004"), not from the Rattle code.
 pub mod coding;
+pub mod dump;
 pub mod edc;
 pub mod format;
+pub mod layouts;
+pub mod marks;
+pub mod pick;
+pub mod plain;
+pub mod read;
+mod search;

@@ -4,8 +4,11 @@ mod measure;
 
 use harness::reference;
 use harness::reference::coding::{code, Mode};
+use harness::reference::dump::Reader;
 use harness::rng::Rng;
 use harness::station;
+use harness::tracks::damage::{false_beginnings, shifted};
+use harness::tracks::{Track, FM, MFM};
 use measure::{hidden, Case};
 use std::cell::RefCell;
 use std::process::Command;
@@ -21,6 +24,7 @@ fn main() {
     coding(with_time);
     data_byte(with_time);
     format(with_time);
+    read(with_time);
 }
 
 /// The first line that a program writes. Also under an emulator the program is the machine's own.
@@ -87,4 +91,33 @@ fn format(with_time: bool) {
         let (rattle, rust) = (station::format, reference::format::format);
         Case { name, drive: &drive, rattle, rust, idle: |_, _, _, _, _, _| 0 }.report(with_time);
     }
+}
+
+fn read(with_time: bool) {
+    // as long as may be
+    const LONGEST: usize = 24_576;
+    let rng = &mut Rng::new(5);
+    for track in [FM, MFM, Track { layout: 2, ..MFM }, Track { layout: 3, ..MFM }] {
+        let (image, ..) = track.random(rng);
+        read_image(&format!("read, layout {}", track.layout), track, &image, with_time);
+    }
+    let (image, ..) = MFM.random(rng);
+    read_image("read, layout 1, shifted", MFM, &shifted(rng, &image, 3), with_time);
+    for (name, track) in [("FM", FM), ("MFM", MFM)] {
+        read_image(&format!("read, noise, {name}"), track, &rng.bytes(LONGEST), with_time);
+        let dense = false_beginnings(rng, track.mode(), LONGEST);
+        read_image(&format!("read, dense noise, {name}"), track, &dense, with_time);
+    }
+}
+
+fn read_image(name: &str, track: Track, image: &[u8], with_time: bool) {
+    let Track { layout, cylinder, side } = track;
+    // one for all calls
+    let lent = RefCell::new((vec![0; track.layout().area_bytes()], [0; 26], [0; 2]));
+    let drive = |f: Reader| {
+        let (area, answers, counts) = &mut *lent.borrow_mut();
+        assert_eq!(f(layout, cylinder, side, image, area, answers, counts), 0);
+    };
+    let (rattle, rust) = (station::read, reference::read::read);
+    Case { name, drive: &drive, rattle, rust, idle: |_, _, _, _, _, _, _| 0 }.report(with_time);
 }

@@ -1,0 +1,44 @@
+//! Writes the kept vectors and the samples: `vectors FOLDER` fills FOLDER/vectors and FOLDER/samples. What the program
+//! has to print for a vector comes from the reference, and the literal reader has to agree.
+mod kept;
+mod samples;
+
+use harness::reference::dump::{dump, dump_by};
+use harness::reference::plain;
+use std::error::Error;
+use std::fs;
+use std::path::Path;
+
+/// An input for the program that prints a track, and what it shows.
+pub struct Vector {
+    pub shows: String,
+    pub input: Vec<u8>,
+}
+
+fn main() -> Result<(), Box<dyn Error>> {
+    let folder = std::env::args().nth(1).ok_or("usage: vectors FOLDER")?;
+    let folder = Path::new(&folder);
+    let mut index = String::new();
+    fs::create_dir_all(folder.join("vectors"))?;
+    for (number, Vector { shows, input }) in kept::all().into_iter().enumerate() {
+        let place = folder.join("vectors").join(format!("{number:04}"));
+        fs::write(place.with_extension("in"), &input)?;
+        fs::write(place.with_extension("out"), printed(&input))?;
+        index += &format!("{number:04} {shows}\n");
+    }
+    fs::write(folder.join("vectors/INDEX"), &index)?;
+    println!("{} vectors", index.lines().count());
+
+    fs::create_dir_all(folder.join("samples"))?;
+    for (name, input) in samples::all() {
+        fs::write(folder.join("samples").join(name), &input)?;
+        println!("{name}:\n{}", printed(&input));
+    }
+    Ok(())
+}
+
+fn printed(input: &[u8]) -> String {
+    let printed = dump(input);
+    assert_eq!(printed, dump_by(plain::read, input), "the reference and the literal reader");
+    printed
+}

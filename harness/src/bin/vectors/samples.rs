@@ -1,0 +1,77 @@
+//! A few tracks to try the program on: what a bench meets.
+use harness::tracks::damage::turn;
+use harness::tracks::{Track, FM};
+
+const TRACK: Track = Track { layout: 3, cylinder: 5, side: 1 };
+
+pub fn all() -> Vec<(&'static str, Vec<u8>)> {
+    let image = TRACK.formatted(&program(), &[0xFB; 8]);
+    vec![
+        ("clean.in", TRACK.input(&image)),
+        ("worn.in", TRACK.input(&worn(&image))),
+        ("cut.in", TRACK.input(&image[..TRACK.places(6).1 + 700])),
+        ("other-cylinder.in", Track { cylinder: 6, ..TRACK }.input(&image)),
+        ("open.in", TRACK.input(&open(&image))),
+        ("first-track.in", FM.input(&first_track())),
+    ]
+}
+
+/// Part of a program for a milling machine, as long as a track.
+fn program() -> Vec<u8> {
+    let size = TRACK.layout().area_bytes();
+    let mut text = String::from("%\r\nO0047 (COVER PLATE)\r\nG21 G17 G40 G90\r\nT03 M06\r\nS1800 M03\r\n");
+    for block in 1..1_000 {
+        let (x, y) = (block * 37 % 2_400, block * 53 % 1_600);
+        let (depth, feed) = (block / 40, 120 + block % 7 * 30);
+        text += &format!("N{:04} G01 X{}.{:02} Y{}.{:02} ", 10 * block, x / 10, x % 10 * 10, y / 10, y % 10 * 10);
+        text += &format!("Z-{}.{} F{feed}\r\n", depth / 10, depth % 10);
+    }
+    text.into_bytes().into_iter().take(size).collect()
+}
+
+/// The track after some years.
+fn worn(image: &[u8]) -> Vec<u8> {
+    let mut worn = image.to_vec();
+    let cell = |sector: usize, from: fn((usize, usize)) -> usize| 8 * from(TRACK.places(sector));
+    // a data cell in the block of sector 2, and one in the EDC of sector 7
+    turn(&mut worn, cell(2, |(_, data)| data + 8 + 600) + 5);
+    turn(&mut worn, cell(7, |(_, data)| data + 8 + 2 * 1_024) + 3);
+    // clock cells in the block of sector 3 do not matter
+    turn(&mut worn, cell(3, |(_, data)| data + 8 + 77));
+    turn(&mut worn, cell(3, |(_, data)| data + 8 + 79) + 2);
+    // the data mark of sector 4, and the address of sector 6
+    turn(&mut worn, cell(4, |(_, data)| data + 3));
+    turn(&mut worn, cell(6, |(identifier, _)| identifier + 8 + 4) + 1);
+    // a scratch through the gap before sector 8
+    let (gap, _) = TRACK.places(8);
+    worn[gap - 60..gap - 40].fill(0x00);
+    worn
+}
+
+/// A rewrite of sector 3 that somebody cut off after 401 stores: the open mark, and 200 new bytes.
+fn open(image: &[u8]) -> Vec<u8> {
+    let mut data = program();
+    data[2 * 1_024..3 * 1_024].reverse();
+    let new = TRACK.formatted(&data, &[0xFB; 8]);
+    let (_, mark) = TRACK.places(3);
+    let mut open = image.to_vec();
+    open[mark + 7] = 0x49;
+    open[mark + 8..][..400].copy_from_slice(&new[mark + 8..][..400]);
+    open
+}
+
+/// Cylinder 0, side 0, with text in some sectors; the last eight are control records, which begin with D.
+fn first_track() -> Vec<u8> {
+    let layout = FM.layout();
+    let mut marks = vec![0xFB; layout.sectors];
+    marks[18..].fill(0xF8);
+    let text = |sector: usize| match sector {
+        5 => "ERMAP".to_string(),
+        7 => "VOL1SHOP47".to_string(),
+        8 => "HDR1COVERPLATE".to_string(),
+        _ if sector > 18 => format!("DDR1UNUSED{sector:02}"),
+        _ => String::new(),
+    };
+    let sectors = (1..=layout.sectors).map(|sector| format!("{:<128}", text(sector)));
+    FM.formatted(&sectors.collect::<String>().into_bytes(), &marks)
+}

@@ -1,0 +1,43 @@
+//! The pick from two passes (01, "Two passes", "Refused calls").
+use super::layouts::LAYOUTS;
+
+/// What is handed back for one sector.
+#[derive(Clone, Copy, Debug, PartialEq, Eq)]
+pub enum Pick<'a> {
+    /// The first pass answered 1 or 2: that number and its slot.
+    First(u8, &'a [u8]),
+    /// Only the second did.
+    Second(u8, &'a [u8]),
+    /// Neither did: the first pass's number.
+    Neither(u8),
+    /// The call was refused by this number.
+    Refused(u8),
+}
+
+/// Picks a sector from two areas with their answers. A slot is handed out by its answer alone.
+pub fn pick<'a>(
+    layout: u32,
+    sector: u32,
+    first: &'a [u8],
+    first_answers: &[u8; 26],
+    second: &'a [u8],
+    second_answers: &[u8; 26],
+) -> Pick<'a> {
+    let layout = match LAYOUTS.get(layout as usize) {
+        Some(layout) => layout,
+        None => return Pick::Refused(4),
+    };
+    if sector == 0 || sector as usize > layout.sectors {
+        return Pick::Refused(9);
+    }
+    if first.len() != layout.area_bytes() || second.len() != layout.area_bytes() {
+        return Pick::Refused(5);
+    }
+    let index = sector as usize - 1;
+    let slot = index * layout.size..(index + 1) * layout.size;
+    match (first_answers[index], second_answers[index]) {
+        (answer @ (1 | 2), _) => Pick::First(answer, &first[slot]),
+        (_, answer @ (1 | 2)) => Pick::Second(answer, &second[slot]),
+        (answer, _) => Pick::Neither(answer),
+    }
+}

@@ -1,0 +1,119 @@
+//! Reading once more, word for word and cell by cell (01, "How a track is read"): slow, to check the fast reader by.
+use super::coding::Mode;
+use super::edc::edc;
+use super::layouts::{of_track, Layout};
+use super::marks::{Mark, Marks, FM, MFM};
+
+/// Reads a track, as `read::read` does.
+pub fn read(
+    layout: u32,
+    cylinder: u32,
+    side: u32,
+    image: &[u8],
+    area: &mut [u8],
+    answers: &mut [u8; 26],
+    counts: &mut [u32; 2],
+) -> u8 {
+    area.fill(0);
+    (*answers, *counts) = ([0; 26], [0; 2]);
+    let layout = match of_track(layout, cylinder, side) {
+        Err(number) => return number,
+        Ok(_) if !(1..=24_576).contains(&image.len()) => return 1,
+        Ok(layout) if area.len() != layout.sectors * layout.size => return 5,
+        Ok(layout) => layout,
+    };
+    let (mut met, own) = (Met::default(), [cylinder as u8, side as u8, layout.fourth]);
+    match layout.mode {
+        Mode::Fm => walk(&FM, 544, layout, own, image, &mut met),
+        Mode::Mfm => walk(&MFM, 1_088, layout, own, image, &mut met),
+    };
+    *counts = [met.bad, met.foreign];
+    for number in 1..=layout.sectors {
+        let records: Vec<_> = met.accepted.iter().filter(|record| record.0 == number).collect();
+        answers[number - 1] = match records.len() {
+            0 => 21,
+            1 => records[0].1,
+            _ => 22,
+        };
+        if let [(_, _, bytes)] = records[..] {
+            area[(number - 1) * layout.size..][..bytes.len()].copy_from_slice(bytes);
+        }
+    }
+    0
+}
+
+/// What the walk meets: the two counts, and of each accepted identifier sector number, answer and bytes.
+#[derive(Default)]
+struct Met {
+    bad: u32,
+    foreign: u32,
+    accepted: Vec<(usize, u8, Vec<u8>)>,
+}
+
+/// The walk from cell 0, as long as it goes on. `own` are the track's cylinder, side and fourth address byte.
+fn walk<const MARK: usize>(
+    marks: &Marks<MARK>,
+    window: usize,
+    layout: &Layout,
+    own: [u8; 3],
+    image: &[u8],
+    met: &mut Met,
+) -> Option<()> {
+    let (cells, mut cell) = (8 * image.len(), 0);
+    loop {
+        // 1
+        let mark = (cell..cells).find(|&place| stands(image, &marks.identifier, place))?;
+        cell = mark + 8 * MARK;
+        let six = (cells - cell >= 96).then(|| bytes(image, cell, 6))?;
+        // 2
+        if edc(&[marks.identifier.bytes, &six].concat()) != 0 {
+            met.bad += 1;
+            continue;
+        }
+        cell += 96;
+        let number = usize::from(six[2]);
+        if [six[0], six[1], six[3]] != own || !(1..=layout.sectors).contains(&number) {
+            met.foreign += 1;
+            continue;
+        }
+        // 3
+        let kinds = [&marks.identifier, &marks.data, &marks.control, &marks.open];
+        let kind_at = |place| kinds.iter().position(|mark| stands(image, mark, place));
+        let found = (cell..=cell + window).find_map(|place| Some((place, kind_at(place)?)));
+        let (place, kind) = found.unwrap_or((cell, 0));
+        if kind == 0 {
+            met.accepted.push((number, 23, vec![]));
+            continue;
+        }
+        // 4
+        cell = place + 8 * MARK + 16 * (layout.size + 2);
+        if cell > cells {
+            met.accepted.push((number, 24, vec![]));
+            return None;
+        }
+        let block = bytes(image, place + 8 * MARK, layout.size + 2);
+        let is_right = edc(&[kinds[kind].bytes, &block].concat()) == 0;
+        met.accepted.push(match kind {
+            3 => (number, 25, vec![]),
+            _ if !is_right => (number, 26, vec![]),
+            _ => (number, kind as u8, block[..layout.size].to_vec()),
+        });
+    }
+}
+
+/// Whether a cell of the image is 1.
+fn is_one(image: &[u8], cell: usize) -> bool {
+    image[cell / 8] >> (7 - cell % 8) & 1 == 1
+}
+
+/// Whether a mark stands at a place: all its cells, in the image.
+fn stands<const MARK: usize>(image: &[u8], mark: &Mark<MARK>, place: usize) -> bool {
+    let is_inside = place + 8 * MARK <= 8 * image.len();
+    is_inside && (0..8 * MARK).all(|cell| is_one(image, place + cell) == is_one(&mark.image, cell))
+}
+
+/// The bytes that the cells from one on hold, whatever their clock cells.
+fn bytes(image: &[u8], from: usize, count: usize) -> Vec<u8> {
+    let byte = |at| (0..8).fold(0, |byte, bit| byte << 1 | u8::from(is_one(image, from + 16 * at + 2 * bit + 1)));
+    (0..count).map(byte).collect()
+}

@@ -1,0 +1,66 @@
+//! Traps that the papers lay for a reader: small tracks, each with the outcome that 01 wants, worked out by hand.
+mod blocks;
+mod identifiers;
+mod searches;
+
+use super::sketch::{contents, Sketch};
+use super::{Track, FM, MFM};
+
+/// A track with its outcome.
+pub struct Trap {
+    pub name: &'static str,
+    pub shows: String,
+    pub track: Track,
+    pub image: Vec<u8>,
+    pub answers: [u8; 26],
+    /// Bad and foreign identifiers.
+    pub counts: [u32; 2],
+    /// The slots of all sectors.
+    pub area: Vec<u8>,
+}
+
+/// All of them.
+pub fn all() -> Vec<Trap> {
+    [searches::all(), identifiers::all(), blocks::all()].into_iter().flatten().collect()
+}
+
+impl Trap {
+    /// Every sector without an identifier, until more is said.
+    fn new(name: &'static str, shows: &str, sketch: &Sketch) -> Trap {
+        let track = sketch.track;
+        let layout = track.layout();
+        let mut answers = [0; 26];
+        answers[..layout.sectors].fill(21);
+        let (shows, area) = (shows.to_string(), vec![0; layout.area_bytes()]);
+        Trap { name, shows, track, image: sketch.image(), answers, counts: [0; 2], area }
+    }
+
+    /// Sector numbers with their answers. Where that is 1 or 2, the slot holds the sector's own contents.
+    fn answers(mut self, answers: &[(u8, u8)]) -> Trap {
+        for &(sector, answer) in answers {
+            self.answers[usize::from(sector) - 1] = answer;
+            if answer <= 2 {
+                let bytes = contents(self.track, sector);
+                self = self.holds(sector, &bytes);
+            }
+        }
+        self
+    }
+
+    /// The slot of a sector holds these bytes.
+    fn holds(mut self, sector: u8, bytes: &[u8]) -> Trap {
+        let size = self.track.layout().size;
+        self.area[(usize::from(sector) - 1) * size..][..size].copy_from_slice(bytes);
+        self
+    }
+
+    fn counts(mut self, bad: u32, foreign: u32) -> Trap {
+        self.counts = [bad, foreign];
+        self
+    }
+}
+
+/// The same trap in both modes.
+fn in_both(trap: impl Fn(Sketch) -> Trap) -> Vec<Trap> {
+    [FM, MFM].map(|track| trap(Sketch::new(track).gap(4))).into()
+}

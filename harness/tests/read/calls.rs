@@ -1,0 +1,140 @@
+//! Calls of a reader, and how the two sides are held against each other on one of them.
+use harness::reference::dump::Reader;
+use harness::reference::read::read;
+use harness::rng::Rng;
+use harness::station;
+use harness::tracks::Track;
+use std::fmt;
+
+/// All that is handed to a reader but what it fills.
+#[derive(Clone)]
+pub struct Call {
+    pub track: Track,
+    pub image: Vec<u8>,
+    /// The length of the lent area.
+    pub area: usize,
+}
+
+impl Call {
+    /// With an area of the right length.
+    pub fn new(track: Track, image: Vec<u8>) -> Call {
+        Call { track, image, area: track.layout().area_bytes() }
+    }
+
+    /// What a reader makes of it. Before the call everything lent is full of something else, and so is what stands
+    /// around the area.
+    pub fn outcome(&self, rng: &mut Rng, reader: Reader) -> Outcome {
+        let Track { layout, cylinder, side } = self.track;
+        // at any alignment
+        let (before, after) = (rng.below(16), rng.below(16));
+        let image = [&vec![0x44; before], &self.image[..]].concat();
+        let lent = garbage(rng, before + self.area + after);
+        let mut area = lent.clone();
+        let mut answers = [rng.byte() | 1; 26];
+        let mut counts = [rng.bits() as u32 | 1; 2];
+        let slots = before..before + self.area;
+        let number =
+            reader(layout, cylinder, side, &image[before..], &mut area[slots.clone()], &mut answers, &mut counts);
+        assert_eq!(area[..before], lent[..before], "bytes before the area: {self:?}");
+        assert_eq!(area[slots.end..], lent[slots.end..], "bytes after the area: {self:?}");
+        Outcome { number, answers, counts, area: area[slots].to_vec() }
+    }
+}
+
+/// Bytes of which none is 0.
+fn garbage(rng: &mut Rng, length: usize) -> Vec<u8> {
+    let eight = rng.bits().to_le_bytes().map(|byte| byte | 1);
+    let mut bytes = eight.repeat(length / 8 + 1);
+    bytes.truncate(length);
+    bytes
+}
+
+/// What comes back from a reader.
+#[derive(Clone, PartialEq, Eq)]
+pub struct Outcome {
+    pub number: u8,
+    pub answers: [u8; 26],
+    pub counts: [u32; 2],
+    pub area: Vec<u8>,
+}
+
+impl Outcome {
+    /// That of a refused call.
+    pub fn refused(number: u8, area: usize) -> Outcome {
+        Outcome { number, answers: [0; 26], counts: [0; 2], area: vec![0; area] }
+    }
+}
+
+impl fmt::Debug for Outcome {
+    fn fmt(&self, f: &mut fmt::Formatter) -> fmt::Result {
+        let Outcome { number, answers, counts, .. } = self;
+        write!(f, "{number}, answers {answers:?}, counts {counts:?}")
+    }
+}
+
+impl fmt::Debug for Call {
+    fn fmt(&self, f: &mut fmt::Formatter) -> fmt::Result {
+        let Call { track, image, area } = self;
+        write!(f, "{track:?}, area of {area} bytes, image of {} bytes", image.len())?;
+        if image.len() <= 4_096 {
+            write!(f, ": ")?;
+            image.iter().try_for_each(|octet| write!(f, "{octet:02X}"))?;
+        }
+        Ok(())
+    }
+}
+
+/// Holds the library against the reference on one call, and hands back their outcome.
+pub fn compare(rng: &mut Rng, call: &Call) -> Outcome {
+    let expected = call.outcome(rng, read);
+    agrees(call, &call.outcome(rng, station::read), &expected);
+    expected
+}
+
+/// Says where two outcomes of a call differ, if they do.
+pub fn agrees(call: &Call, found: &Outcome, expected: &Outcome) {
+    let slots = |outcome: &Outcome| Outcome { area: vec![], ..outcome.clone() };
+    assert_eq!(slots(found), slots(expected), "{call:?}");
+    let mut bytes = found.area.iter().zip(&expected.area).enumerate();
+    if let Some((at, (found, expected))) = bytes.find(|(_, (found, expected))| found != expected) {
+        panic!("byte {at} of the area is {found:02X}, not {expected:02X}: {call:?}");
+    }
+}
+
+/// How often each answer came: 0 for those past a layout's count and in refused calls.
+#[derive(Default)]
+pub struct Tally {
+    inputs: usize,
+    answers: [usize; 27],
+    bad: u32,
+    foreign: u32,
+}
+
+impl Tally {
+    pub fn count(&mut self, outcome: &Outcome) {
+        self.inputs += 1;
+        outcome.answers.iter().for_each(|&answer| self.answers[usize::from(answer)] += 1);
+        self.bad += outcome.counts[0];
+        self.foreign += outcome.counts[1];
+    }
+
+    /// How often an answer came.
+    pub fn of(&self, answer: usize) -> usize {
+        self.answers[answer]
+    }
+
+    /// Says what was compared, and that every answer came.
+    pub fn report_all(&self, name: &str) {
+        self.report(name);
+        assert!((1..=26).all(|answer| (3..=20).contains(&answer) || self.of(answer) > 0), "answers of {name}");
+        assert!(self.bad > 0 && self.foreign > 0, "counts of {name}");
+    }
+
+    pub fn report(&self, name: &str) {
+        let Tally { inputs, answers, bad, foreign } = self;
+        print!("read, {name}: {inputs} inputs compared;");
+        let came = answers.iter().enumerate().skip(1).filter(|(_, &times)| times > 0);
+        came.for_each(|(answer, times)| print!(" {answer}: {times},"));
+        println!(" identifiers {bad} bad, {foreign} foreign");
+    }
+}
