@@ -8,10 +8,11 @@ use native.Mathlib.Omega.{arith}
 use borrow.Rule.Slice.PartMut.{putMid}
 use lib.ListN.{length, getD, take, drop}
 use lib.Seq.{sets}
+use Rattle.marks.specs.Marks.{markOf}
 use Rattle.layouts.specs.Layouts.{gapByte, markBytes, fields, sectorFields, numbers}
 use Rattle.layouts.specs.declared.Layout.{Layout}
 use Rattle.marks.specs.declared.Mark.{Mark}
-use Rattle.format.specs.Order.{image, run, markOf, slot, sector, formatted}
+use Rattle.format.specs.Order.{image, run, slot, sector, formatted}
 use Rattle.format.proofs.Symbols.{length-sector}
 use Rattle.format.proofs.Parts.{Spaced, leader, length-leader, length-slot, slotted, slotted-numbers, length-numbers, stretch, stretches, track-parts, length-fields}
 use Rattle.cells.proofs.Stores.{sets-append, sets-whole, part-put}

@@ -1,20 +1,17 @@
 -- The order on the track, for every layout: a list of symbols, and the image bytes that they are coded to, in one pass that hands on the
 -- bit before. Each definition takes what follows it as its last argument, so that the track reads from the top to the bottom.
-use mathlib.Core.Bool.{cond}
 use mathlib.Core.List.{List, [], _∷_, _++_}
 use Prim.Native.Nat.{ℕ, zero, suc, _-_, _*_, _%_}
-use lib.Dec.{eqb}
 use lib.ListN.{getD, take, drop}
 use Rattle.cells.specs.Coding.{high, low}
 use Rattle.cells.specs.declared.Mode.{Mode}
 use Rattle.cells.specs.declared.Pair.{Pair}
 use Rattle.edc.specs.Register.{edcOf, edcBytes}
 use Rattle.layouts.specs.Layouts.{gapByte}
-use Rattle.layouts.specs.Refusals.{controlMark}
 use Rattle.layouts.specs.declared.Layout.{Layout}
-use Rattle.marks.specs.Marks.{string, markByte, covered}
+use Rattle.marks.specs.Marks.{string, markByte, markOf, covered}
 use Rattle.marks.specs.declared.Mark.{Mark}
-use Rattle.marks.specs.declared.Mark.the-variants.{Index, Identifier, Data, Control}
+use Rattle.marks.specs.declared.Mark.the-variants.{Index, Identifier}
 
 -- What stands on a track: bytes, coded by the clock rule, and marks, which are fixed strings.
 pub data Symbol : Type 0 where
@@ -45,10 +42,6 @@ bytes (x ∷ xs) ss = let rest = bytes xs ss in plain x ∷ rest
 -- The bytes xs and their EDC, which covers the mark before them too (004, 5.2.2.4, 5.4.3, 6.2.2.4 and 6.4.3).
 unfoldable pub checked : Mode → Mark → List ℕ → List ℕ
 checked mode m xs = xs ++ edcBytes (edcOf (covered mode m ++ xs))
-
--- The mark that a mark byte F8 or FB asks for (004, 7.4.2.4.1).
-abbrev pub markOf : ℕ → Mark
-markOf x = cond (eqb x controlMark) Control Data
 
 -- The part of the data that belongs to sector s: size bytes for each sector number from 1 on (01, "How a track is read": a slot for each).
 abbrev pub slot : ℕ → ℕ → List ℕ → List ℕ

@@ -10,9 +10,10 @@ ghost use mathlib.Core.List.{[], _∷_};
 ghost use Prim.Native.Nat.{_+_, _*_, _≤_};
 ghost use lib.ListN.{length};
 ghost use lib.Seq.{sets};
+ghost use Rattle.marks.specs.Marks.{markOf};
 ghost use Rattle.layouts.specs.Layouts.{gapByte, markBytes, fields, sectorFields, numbers};
 ghost use Rattle.marks.specs.declared.Mark.the-variants.{Index};
-ghost use Rattle.format.specs.Order.{mark as marked, image as imageOf, run, markOf, formatted};
+ghost use Rattle.format.specs.Order.{mark as marked, image as imageOf, run, formatted};
 
 // What stands before the first sector.
 fn write_leader(layout: Layout, image: &mut [u8])

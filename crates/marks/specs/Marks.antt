@@ -1,6 +1,6 @@
 -- The marks: fixed strings of image bytes, compared at any cell. Three 44 89 and the mark byte are one mark; 44 89 by itself is none.
 -- As in cells, c i is cell i of an image, and n the number of its cells.
-use mathlib.Core.Bool.{Bool, true, _&&_}
+use mathlib.Core.Bool.{Bool, true, cond, _&&_}
 use mathlib.Core.List.{List, [], _∷_}
 use Prim.Native.Nat.{ℕ, _+_, _*_}
 use lib.Dec.{eqb, leb}
@@ -32,6 +32,10 @@ markByte Identifier = 0xFE
 markByte Data = 0xFB
 markByte Control = 0xF8
 markByte Open = 0xF9
+
+-- The mark that a mark byte F8 or FB asks for (004, 7.4.2.4.1).
+abbrev pub markOf : ℕ → Mark
+markOf x = cond (eqb x (markByte Control)) Control Data
 
 -- The byte that stands three times before it in MFM (004, 6.1 and 6.2.1).
 abbrev pub syncByte : Mark → ℕ

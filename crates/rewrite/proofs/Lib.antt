@@ -1,0 +1,6 @@
+pub mod Coded
+pub mod Listed
+pub mod Fixed
+pub mod Counted
+pub mod Worked
+pub mod Judged

@@ -1,0 +1,66 @@
+-- `holds_block` meets its contract: the boundary, the end, and a search of one cell.
+use mathlib.Core.Path.{sym, ap, _∙_}
+use native.Mathlib.Omega.{arith}
+use Rattle.marks.specs.Search.{isFound}
+use Rattle.rewrite.proofs.Judged.{off-boundary, past-end, by-search}
+use Rattle.rewrite.proofs.Counted.{cells-most}
+use borrow.Author.Needs.{needs}
+use Rattle.rewrite.proofs.tests.holds_block.Statement.{statement}
+use Rattle.rewrite.proofs.tests.holds_block.Tie as tie
+
+returns : tie.Need-returns
+returns c = off-boundary _ _ _ (c .if1 .taken)
+
+mul-if2 : tie.Need-mul-if2
+mul-if2 c = search needs
+
+block-cells-requires : tie.Need-block-cells-requires
+block-cells-requires c κs = search needs
+
+add-if2 : tie.Need-add-if2
+add-if2 c = omega (arith, cells-most (c .before .before .before .args .layout), c .block-cells .ensures, c .before .before .before .pre)
+
+returns-2 : tie.Need-returns-2
+returns-2 c = past-end _ _ _ (c .before .before .if1 .left) _ (c .before .block-cells .ensures) (c .if2 .taken)
+
+add-find : tie.Need-add-find
+add-find c = search needs
+
+find-requires : tie.Need-find-requires
+find-requires c κs = search needs
+
+enum-told : tie.Need-enum-told
+enum-told c = search needs
+
+enum-told-2 : tie.Need-enum-told-2
+enum-told-2 c = search needs
+
+returns-3 : tie.Need-returns-3
+returns-3 c =
+    let f = c .before .before in
+    let b = f .before .before in
+    sym (ap isFound (c .enum-told2 .given .1)) ∙ by-search _ _ _ (b .before .if1 .left) _ (b .block-cells .ensures) (f .before .if2 .left)
+    _ (f .find .ensures)
+
+returns-4 : tie.Need-returns-4
+returns-4 c =
+    let f = c .before .before in
+    let b = f .before .before in
+    sym (ap isFound (c .enum-told .given .1)) ∙ by-search _ _ _ (b .before .if1 .left) _ (b .block-cells .ensures) (f .before .if2 .left)
+    _ (f .find .ensures)
+
+pub holds-block-spec : {M : Type 1} → statement M
+holds-block-spec =
+    tie.close
+    (tie.spec
+    returns
+    mul-if2
+    block-cells-requires
+    add-if2
+    returns-2
+    add-find
+    find-requires
+    enum-told
+    enum-told-2
+    returns-3
+    returns-4)

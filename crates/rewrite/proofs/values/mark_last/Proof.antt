@@ -1,0 +1,21 @@
+-- `mark_last` meets its contract, mode by mode.
+use mathlib.Core.Path.{refl}
+use native.Mathlib.Omega.{arith}
+use borrow.Author.Needs.{needs}
+use Rattle.rewrite.proofs.values.mark_last.Statement.{statement}
+use Rattle.rewrite.proofs.values.mark_last.Tie as tie
+
+enum-told : tie.Need-enum-told
+enum-told c = search needs
+
+enum-told-2 : tie.Need-enum-told-2
+enum-told-2 c = search needs
+
+returns : tie.Need-returns
+returns c = rw (c .enum-told .given .1) (refl, refl, omega arith)
+
+returns-2 : tie.Need-returns-2
+returns-2 c = rw (c .enum-told2 .given .1) (refl, refl, omega arith)
+
+pub mark-last-spec : {M : Type 1} → statement M
+mark-last-spec = tie.close (tie.spec enum-told enum-told-2 returns returns-2)

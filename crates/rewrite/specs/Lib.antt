@@ -1,0 +1,3 @@
+pub mod Stores
+pub mod Refusals
+pub mod Outcomes

@@ -1,0 +1,67 @@
+-- What each public function of this crate promises, for every plan, number, area and image.
+use mathlib.Core.List.{List, [], _∷_}
+use mathlib.Core.Path.{_≡_}
+use Prim.Native.Nat.{ℕ, _+_}
+use lib.ListN.{getD}
+use Rattle.layouts.specs.Layouts.{layoutOf}
+use Rattle.layouts.specs.Refusals.{refusal, numberTest}
+use Rattle.layouts.specs.declared.Checked.{Checked}
+use Rattle.layouts.specs.declared.Checked.the-variants as checked
+use Rattle.rewrite.specs.Stores.{stored, none, storeCount}
+use Rattle.rewrite.specs.Refusals.{planned, stepTests, found, cellOf, requestTests}
+use Rattle.rewrite.specs.declared.Plan.{Plan}
+use Rattle.rewrite.specs.declared.Stepped.{Stepped}
+use Rattle.rewrite.specs.declared.Stepped.the-variants as step
+use Rattle.rewrite.specs.declared.Requested.{Requested}
+use Rattle.rewrite.specs.declared.Requested.the-variants as request
+
+-- ---- the number of stores
+
+-- A number where the tests pass; where they refuse there are no stores.
+abbrev pub counted : Checked → ℕ → ℕ
+counted checked.Passed count = count
+counted (checked.Refused f) count = 0
+
+-- `stores_in_all` answers how many stores a rewrite by the plan makes in an image of so many bytes: none above the highest layout.
+abbrev pub CountsStores : Plan → (bytes : ℕ) → ℕ → Type 0
+CountsStores plan bytes answer =
+    answer
+    ≡ counted (refusal (numberTest (plan .layout) ∷ [])) (storeCount (layoutOf (plan .layout)) (plan .place) bytes)
+
+-- ---- step
+
+-- The plan with one store more made.
+abbrev pub next : Plan → Plan
+next plan = record { layout = plan .layout; place = plan .place; made = plan .made + 1 }
+
+-- The answer of a step that its tests pass or refuse: a refused one hands back its number alone.
+abbrev pub stepped : Checked → Plan → Stepped
+stepped checked.Passed plan = step.Made (next plan)
+stepped (checked.Refused f) plan = step.Refused f
+
+-- The image that a step leaves: a refused one leaves it as it was.
+abbrev pub left : Checked → (before after : List ℕ) → List ℕ
+left checked.Passed before after = after
+left (checked.Refused f) before after = before
+
+-- `step` refuses by the first test that applies, and then leaves the image as it was; else it makes the one store that is next, and counts it.
+pub record Steps (plan : Plan) (mark : ℕ) (contents before : List ℕ) (answer : Stepped) (after : List ℕ) : Type 0 where
+  pub answers : answer ≡ stepped (refusal (stepTests plan mark contents before)) plan
+  pub leaves :
+      after
+      ≡ left (refusal (stepTests plan mark contents before)) before
+      (stored before (getD (planned (layoutOf (plan .layout)) plan mark contents before) (plan .made) none))
+
+-- ---- request
+
+-- The answer of a request that its tests pass or refuse, with the cell at which the block's mark begins: a plan of which nothing is made yet.
+abbrev pub requested : Checked → (layout place : ℕ) → Requested
+requested checked.Passed layout place = request.Planned (record { layout = layout; place = place; made = 0 })
+requested (checked.Refused f) layout place = request.Refused f
+
+-- `request` refuses by the first test that applies, with its number alone; else it notes the block's place.
+abbrev pub Requests : (layout cylinder side sector mark : ℕ) → (contents image : List ℕ) → Requested → Type 0
+Requests layout cylinder side sector mark contents image answer =
+    answer
+    ≡ requested (refusal (requestTests layout cylinder side sector mark contents image)) layout
+    (cellOf (found layout cylinder side sector image))
