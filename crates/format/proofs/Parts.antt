@@ -9,11 +9,11 @@ use borrow.Author.Needs.{needs}
 use lib.ListN.{length, getD, length-take, length-drop}
 use Rattle.edc.specs.Register.{edcOf, edcBytes}
 use Rattle.format.proofs.Symbols.{after, image-append, bytes-append, bytes-out, image-run, image-mark, image-block, image-sector, width, length-image, width-run, width-sector}
-use Rattle.format.specs.Order.{mark, image, run, bytes, checked, markOf, slot, gap, block, sector, sectors, track, formatted}
+use Rattle.format.specs.Order.{mark, image, run, bytes, checked, slot, gap, block, sector, sectors, track, formatted}
 use Rattle.layouts.proofs.Layouts.{layout-known}
-use Rattle.layouts.specs.Layouts.{gapByte, highest, layoutOf, markBytes, sectorFields, fields, numbers}
+use Rattle.layouts.specs.Layouts.{gapByte, highest, layoutOf, markBytes, sectorFields, fields, numbers, Every}
 use Rattle.layouts.specs.declared.Layout.{Layout}
-use Rattle.marks.specs.Marks.{string, markByte, covered}
+use Rattle.marks.specs.Marks.{string, markByte, covered, markOf}
 use Rattle.marks.specs.declared.Mark.{Mark}
 use Rattle.marks.specs.declared.Mark.the-variants.{Index, Identifier}
 
@@ -29,11 +29,6 @@ pub record Spaced (l : Layout) : Type 0 where
 -- Every layout that has a number is so.
 pub spaced : (n : ℕ) → n ≤ highest → Spaced (layoutOf n)
 spaced = layout-known Spaced (search needs) (search needs) (search needs) (search needs)
-
--- All of a list are so.
-abbrev pub Every : {A : Type 0} → (A → Type 0) → List A → Type 0
-Every P [] = Unit {0}
-Every P (x ∷ xs) = P x × Every P xs
 
 -- Of a sector number: its whole slot lies in the data.
 abbrev pub Slotted : ℕ → List ℕ → ℕ → Type 0

@@ -12,13 +12,14 @@ use lib.ListN.{length, getD, drop}
 use lib.Seq.{drop-append-add, drop-at, drop-cons, drop-drop}
 use Rattle.cells.specs.declared.Mode.{Mode}
 use Rattle.edc.specs.Register.{edcOf, edcBytes}
-use Rattle.format.proofs.Parts.{Spaced, Every, Slotted, length-slot, leader, length-leader, address, block-parts, sector-parts, stretch, stretches, track-parts}
+use Rattle.format.proofs.Parts.{Spaced, Slotted, length-slot, leader, length-leader, address, block-parts, sector-parts, stretch, stretches, track-parts}
 use Rattle.format.proofs.Symbols.{after, length-run, length-block, length-sector}
-use Rattle.format.specs.Order.{Symbol, plain, mark, image, run, bytes, checked, markOf, slot, gap, block, sector, sectors, track, formatted}
-use Rattle.layouts.specs.Layouts.{gapByte, markBytes, sectorFields}
+use Rattle.format.specs.Places.{sectorPlace, identifierPlace, blockPlace}
+use Rattle.format.specs.Order.{Symbol, plain, mark, image, run, bytes, checked, slot, gap, block, sector, sectors, track, formatted}
+use Rattle.layouts.specs.Layouts.{gapByte, sectorFields, Every}
 use Rattle.layouts.specs.Refusals.{controlMark}
 use Rattle.layouts.specs.declared.Layout.{Layout}
-use Rattle.marks.specs.Marks.{string, markByte, covered}
+use Rattle.marks.specs.Marks.{string, markByte, covered, markOf}
 use Rattle.marks.specs.declared.Mark.{Mark}
 use Rattle.marks.specs.declared.Mark.the-variants.{Index, Identifier, Data, Control, Open}
 
@@ -32,19 +33,6 @@ Begins mode m xs here =
     ≡ string mode m
     ++ (image mode (markByte m % 2) (bytes xs [])
     ++ (image mode (after (markByte m % 2) (bytes xs [])) (bytes (edcBytes (edcOf (covered mode m ++ xs))) []) ++ rest)))
-
-module _ (l : Layout) where
-  -- The image byte at which the stretch of the sector at position i begins.
-  abbrev pub sectorPlace : ℕ → ℕ
-  sectorPlace i = 2 * (l .lead + l .sync + markBytes (l .mode) + l .«index_gap» + i * sectorFields l)
-
-  -- The image byte at which its identifier mark begins.
-  abbrev pub identifierPlace : ℕ → ℕ
-  identifierPlace i = 2 * (l .lead + l .sync + markBytes (l .mode) + l .«index_gap» + i * sectorFields l + l .sync)
-
-  -- The image byte at which its block's mark begins.
-  abbrev pub blockPlace : ℕ → ℕ
-  blockPlace i = identifierPlace i + 2 * (markBytes (l .mode) + 4 + 2 + l .«identifier_gap» + l .sync)
 
 module _ (l : Layout) (cylinder side : ℕ) where
   -- Behind its 00 bytes a block begins with its mark.

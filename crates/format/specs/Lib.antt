@@ -1,3 +1,4 @@
 pub mod Order
 pub mod Refusals
 pub mod Outcomes
+pub mod Places

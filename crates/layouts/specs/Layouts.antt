@@ -100,3 +100,8 @@ mostSectors = 26
 abbrev pub numbers : ℕ → ℕ → List ℕ
 numbers zero s = []
 numbers (suc k) s = s ∷ numbers k (suc s)
+
+-- All of a list are so.
+abbrev pub Every : {A : Type 0} → (A → Type 0) → List A → Type 0
+Every P [] = Unit {0}
+Every P (x ∷ xs) = P x × Every P xs

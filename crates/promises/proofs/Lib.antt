@@ -1,2 +1,11 @@
 pub mod Facts
 pub mod Unique
+pub mod Standing
+pub mod Quiet
+pub mod Gaps
+pub mod Held
+pub mod Rounds
+pub mod Single
+pub mod Trip
+pub mod Calls
+pub mod Demands

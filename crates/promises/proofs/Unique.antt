@@ -19,7 +19,7 @@ use Rattle.read.specs.declared.Fault.{Fault}
 use Rattle.read.specs.declared.Answer.{Answer}
 use Rattle.read.specs.declared.Records.{Records}
 use Rattle.read.specs.declared.Reading.{Reading}
-use Rattle.station.specs.Outcomes.{GivesEdc, GivesCoded, GivesDataByte, GivesFormat, GivesRead}
+use Rattle.station.specs.Outcomes.{GivesEdc, GivesCoded, GivesDataByte, GivesFormat, GivesRead, GivesPick}
 use Rattle.promises.specs.Unique.{Unique}
 
 -- A relation that gives the outcome as a value.
@@ -154,3 +154,7 @@ pub station-read : (layout cylinder side : ℕ) (image : List ℕ) (given : ℕ)
     → Unique (λ (o : ℕ × List ℕ × List ℕ × List ℕ). GivesRead layout cylinder side image given (o .0) (o .1) (o .2) (o .3))
 station-read layout cylinder side image given x y p q =
     all-four (p .numbered ∙ sym (q .numbered)) (p .leaves ∙ sym (q .leaves)) (p .answered ∙ sym (q .answered)) (p .counted ∙ sym (q .counted))
+
+pub station-pick : (layout sector : ℕ) (first ones second twos : List ℕ)
+    → Unique (λ (o : ℕ × List ℕ). GivesPick layout sector first ones second twos (o .0) (o .1))
+station-pick layout sector first ones second twos x y p q = by-values _ _ x y (p .numbered, p .placed) (q .numbered, q .placed)

@@ -1,2 +1,4 @@
 pub mod Facts
 pub mod Unique
+pub mod RoundTrip
+pub mod Reading

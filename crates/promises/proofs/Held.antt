@@ -1,0 +1,185 @@
+-- What stands on a formatted track, sector by sector: nothing that could be taken for a mark up to the identifier, the identifier, nothing
+-- up to the block, and the block; behind the last sector nothing. By induction over the list of sector numbers.
+use mathlib.Core.Path.{_≡_, refl, _∙_}
+use mathlib.Core.List.{List, [], _∷_, _++_}
+use Prim.Native.Nat.{ℕ, zero, suc, _+_, _-_, _*_, _<_, _≤_}
+use native.Mathlib.Nat.{suc-mul, suc-add, zero-add}
+use native.Mathlib.Omega.{arith}
+use lib.ListN.{length, getD}
+use Rattle.cells.specs.Cells.{cell, dataBytes}
+use Rattle.cells.specs.declared.Mode.{Mode}
+use Rattle.cells.proofs.Joined.{cell-lt}
+use Rattle.edc.specs.Register.{edcOf, edcBytes}
+use Rattle.edc.proofs.Laws.{edc-lt}
+use Rattle.marks.specs.Marks.{markOf}
+use Rattle.format.specs.Order.{Symbol, mark, image, run, bytes, checked, slot, gap, block, sector, sectors, track, formatted}
+use Rattle.layouts.specs.Layouts.{Every}
+use Rattle.format.proofs.Parts.{Slotted, length-slot, address}
+use Rattle.format.specs.Places.{sectorPlace, identifierPlace, blockPlace}
+use Rattle.format.proofs.Symbols.{length-image, width, width-run, width-sector, length-checked}
+use Rattle.layouts.specs.Layouts.{gapByte, markBytes, sectorFields}
+use Rattle.layouts.specs.declared.Layout.{Layout}
+use Rattle.marks.specs.Marks.{string, covered}
+use Rattle.marks.specs.declared.Mark.{Mark}
+use Rattle.marks.specs.declared.Mark.the-variants.{Index, Identifier}
+use Rattle.marks.proofs.Spelling.{Stand}
+use Rattle.read.specs.Walk.{markCells, blockCells}
+use Rattle.promises.specs.RoundTrip.{Byte, Legible, Numbered}
+use Rattle.promises.proofs.Standing.{every-append, every-take, every-drop, On, on-move, on-mark, on-bytes, on-image}
+use Rattle.promises.proofs.Quiet.{Quiet, quiet-none, quiet-join}
+use Rattle.promises.proofs.Gaps.{gap-mark, quiet-index, gap-last}
+
+-- ---- a mark and its bytes
+
+-- Bytes with their EDC are bytes.
+checked-bytes : (mode : Mode) (m : Mark) (xs : List ℕ) → Every Byte xs → Every Byte (checked mode m xs)
+unfolding checked
+checked-bytes mode m xs f =
+    let h = edc-lt (covered mode m ++ xs) in
+    every-append xs (edcBytes (edcOf (covered mode m ++ xs))) f (omega arith, (omega arith, tt))
+
+-- A mark, k bytes and their EDC: what is read, and what stands behind them.
+on-block : (mode : Mode) (c : ℕ → ℕ) → ((i : ℕ) → c i < 2) → (p : ℕ) (m : Mark) (xs : List ℕ) (ss : List Symbol) (k : ℕ) → length xs ≡ k
+    → Every Byte xs → On mode c p (mark m ∷ bytes (checked mode m xs) ss)
+    → Stand c p (string mode m)
+    × (dataBytes c (p + markCells mode) (k + 2) ≡ checked mode m xs)
+    × On mode c (p + markCells mode + 16 * (k + 2)) ss
+on-block mode c bit p m xs ss k e f o =
+    let start = on-mark mode c p m (bytes (checked mode m xs) ss) o in
+    let rest = on-bytes mode c bit (p + markCells mode) (checked mode m xs) ss (checked-bytes mode m xs f) (start .1) in
+    let long : length (checked mode m xs) ≡ k + 2 = length-checked mode m xs ∙ rw e in
+    (start .0, rw long at (rest .0), rw long at (rest .1))
+
+-- ---- places
+
+module _ (l : Layout) where
+  -- The cells at which the identifier and the block of the sector at position i begin.
+  abbrev pub identifierCell : ℕ → ℕ
+  identifierCell i = 8 * identifierPlace l i
+
+  abbrev pub blockCell : ℕ → ℕ
+  blockCell i = 8 * blockPlace l i
+
+  -- Where the walk stands before position i: at the track's start, or behind the block before.
+  abbrev pub turn : ℕ → ℕ
+  turn zero = 0
+  turn (suc i) = blockCell i + blockCells l
+
+-- ---- what stands
+
+module _ (l : Layout) (cylinder side : ℕ) (c : ℕ → ℕ) (n : ℕ) where
+  -- At position i stands sector s with the mark m and the data xs.
+  pub record Sector (i s : ℕ) (m : Mark) (xs : List ℕ) : Type 0 where
+    pub before : Quiet (l .mode) c n (turn l i) (identifierCell l i)
+    pub identifier : Stand c (identifierCell l i) (string (l .mode) Identifier)
+    pub named : dataBytes c (identifierCell l i + markCells (l .mode)) 6 ≡ checked (l .mode) Identifier (address l cylinder side s)
+    pub between : Quiet (l .mode) c n (identifierCell l i + markCells (l .mode) + 96) (blockCell l i)
+    pub marked : Stand c (blockCell l i) (string (l .mode) m)
+    pub holds : dataBytes c (blockCell l i + markCells (l .mode)) (l .size + 2) ≡ checked (l .mode) m xs
+    pub room : blockCell l i + blockCells l ≤ n
+
+  -- From position i on stand the sectors of the list, each with its mark and its slot, and then nothing.
+  abbrev pub Held : List ℕ → List ℕ → ℕ → List ℕ → Type 0
+  Held contents marks i [] = Quiet (l .mode) c n (turn l i) n
+  Held contents marks i (s ∷ ss) =
+      Sector i s (markOf (getD marks (s - 1) 0)) (slot (l .size) s contents) × Held contents marks (suc i) ss
+
+-- Two runs of one byte.
+run-run : (g k x : ℕ) (ss : List Symbol) → run g x (run k x ss) ≡ run (g + k) x ss
+unfolding run
+run-run zero k x ss = rw zero-add
+run-run (suc g) k x ss = rw (suc-add g k, run-run g k x ss)
+
+-- The track bytes of a sector, as a sum.
+pub fields-sum : (l : Layout) → sectorFields l
+    ≡ l .sync + markBytes (l .mode) + 4 + 2 + l .«identifier_gap» + (l .sync + markBytes (l .mode) + l .size + 2 + l .«block_gap»)
+unfolding sectorFields
+fields-sum l = refl
+
+-- ---- the sectors of a list
+
+module _ (l : Layout) (fit : Legible l) (cylinder side : ℕ) (hc : Byte cylinder) (hs : Byte side) (contents marks : List ℕ)
+    (all : Every Byte contents) (c : ℕ → ℕ) (bit : (i : ℕ) → c i < 2) (n : ℕ) where
+  -- One sector, behind a gap of g bytes: it stands, and behind its block follow its gap and the rest.
+  one : (s i p g : ℕ) (m : Mark) (xs : List ℕ) (ss : List Symbol) → Byte s → length xs ≡ l .size → Every Byte xs
+      → Quiet (l .mode) c n (turn l i) p → On (l .mode) c p (gap l cylinder side g (sector l cylinder side s m xs ss))
+      → p + 16 * g ≡ 8 * sectorPlace l i → blockCell l i + blockCells l ≤ n
+      → Sector l cylinder side c n i s m xs × On (l .mode) c (turn l (suc i)) (gap l cylinder side (l .«block_gap») ss)
+  unfolding sector block
+  one s i p g m xs ss hn long hx q o e room =
+      let mode = l .mode in
+      let first = gap-mark mode c bit n p g (l .sync) Identifier _ (fit .sync) o in
+      let at : p + 16 * (g + l .sync) ≡ identifierCell l i = omega arith in
+      let name = on-block mode c bit (identifierCell l i) Identifier (address l cylinder side s) _ 4 refl (hc, (hs, (hn, (fit .fourth, tt))))
+      (on-move mode c _ _ _ at (first .1)) in
+      let second = gap-mark mode c bit n (identifierCell l i + markCells mode + 96) (l .«identifier_gap») (l .sync) m _ (fit .sync) (name .2) in
+      let there : identifierCell l i + markCells mode + 96 + 16 * (l .«identifier_gap» + l .sync) ≡ blockCell l i = omega arith in
+      let body = on-block mode c bit (blockCell l i) m xs (gap l cylinder side (l .«block_gap») ss) (l .size) long hx
+      (on-move mode c _ _ _ there (second .1)) in
+      let behind : blockCell l i + markCells mode + 16 * (l .size + 2) ≡ turn l (suc i) = omega arith in (
+        record {
+          before = quiet-join mode c n (turn l i) p (identifierCell l i) q (rw at at (first .0));
+          identifier = name .0;
+          named = name .1;
+          between = rw there at (second .0);
+          marked = body .0;
+          holds = body .1;
+          room = room;
+        },
+        on-move mode c _ _ _ behind (body .2),
+      )
+
+  -- All sectors of a list, behind a gap of g bytes.
+  held : (order : List ℕ) (i p g : ℕ) → Every (Numbered l) order → Every (Slotted (l .size) contents) order
+      → Quiet (l .mode) c n (turn l i) p → On (l .mode) c p (gap l cylinder side g (sectors l cylinder side contents marks order))
+      → p + 16 * g ≡ 8 * sectorPlace l i
+      → n ≡ 8 * sectorPlace l i + 16 * width (l .mode) (sectors l cylinder side contents marks order)
+      → Held l cylinder side c n contents marks i order
+  unfolding sectors width
+  held [] i p g hn hs q o e whole =
+      quiet-join (l .mode) c n (turn l i) p n q
+      (gap-last (l .mode) c bit n p (g + l .«track_gap»)
+      (omega (arith, width-run (l .mode) (l .«track_gap») (gapByte (l .mode)) []))
+      (rw (run-run g (l .«track_gap») (gapByte (l .mode)) []) at o))
+  held (s ∷ ss) i p g hn hs q o e whole =
+      let xs = slot (l .size) s contents in
+      let m = markOf (getD marks (s - 1) 0) in
+      let more = sectors l cylinder side contents marks ss in
+      let long = length-slot (l .size) contents s (hs .0) in
+      let wide = width-sector l cylinder side s m xs more long in
+      let sum = fields-sum l in
+      let next = suc-mul i (sectorFields l) in
+      let few = fit .few in
+      let small = every-take (l .size) _ (every-drop ((s - 1) * l .size) contents all) in
+      let here = one s i p g m xs more (omega arith) long small q o e (omega arith) in (
+        here .0,
+        held ss (suc i) (turn l (suc i)) (l .«block_gap») (hn .1) (hs .1) (quiet-none (l .mode) c n _) (here .1) (omega arith) (omega arith),
+      )
+
+-- ---- the whole track
+
+module _ (l : Layout) (fit : Legible l) (cylinder side : ℕ) (hc : Byte cylinder) (hs : Byte side) (contents marks : List ℕ)
+    (all : Every Byte contents) where
+  -- The image of a formatted track holds its sectors.
+  pub track-held : (order : List ℕ) → Every (Numbered l) order → Every (Slotted (l .size) contents) order
+      → Held l cylinder side
+      (cell (formatted l cylinder side contents marks order))
+      (8 * length (formatted l cylinder side contents marks order))
+      contents marks 0 order
+  unfolding formatted track width
+  track-held order numbered slots =
+      let mode = l .mode in
+      let rest = sectors l cylinder side contents marks order in
+      let symbols = track l cylinder side contents marks order in
+      let im = image mode 0 symbols in
+      let n = 8 * length im in
+      let first = gap-mark mode (cell im) (cell-lt im) n 0 (l .lead) (l .sync) Index _ (fit .sync) (on-image mode symbols) in
+      let p = 0 + 16 * (l .lead + l .sync) in
+      let quiet = quiet-join mode (cell im) n 0 p (p + markCells mode) (first .0)
+      (quiet-index mode (cell im) (cell-lt im) n p (l .«index_gap») rest (fit .«index_gap») (first .1)) in
+      let long = length-image mode 0 symbols in
+      let a = width-run mode (l .lead) (gapByte mode) (run (l .sync) 0 (mark Index ∷ gap l cylinder side (l .«index_gap») rest)) in
+      let b = width-run mode (l .sync) 0 (mark Index ∷ gap l cylinder side (l .«index_gap») rest) in
+      let d = width-run mode (l .«index_gap») (gapByte mode) rest in
+      held l fit cylinder side hc hs contents marks all (cell im) (cell-lt im) n order 0 (p + markCells mode) (l .«index_gap») numbered slots
+      quiet (on-mark mode (cell im) p Index _ (first .1) .1) (omega arith) (omega arith)

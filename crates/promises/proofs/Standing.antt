@@ -1,0 +1,135 @@
+-- What stands in the cells: the symbols of a track from some cell on, after some bit. Field by field, what is read there is what was
+-- written: runs are passed over, marks are their strings, coded bytes are read back. And an image stands in its own cells.
+use mathlib.Core.Path.{_≡_, refl, ap₂}
+use mathlib.Core.List.{List, [], _∷_, _++_}
+use Prim.Native.Nat.{ℕ, zero, suc, _+_, _*_, _%_, _<_}
+use native.Mathlib.Nat.{add-assoc, add-zero, zero-add}
+use native.Mathlib.Omega.{arith}
+use lib.Dec.{lit<}
+use lib.ListN.{length, getD, take, drop}
+use Rattle.cells.specs.Cells.{cell, octet, dataBytes}
+use Rattle.cells.specs.declared.Mode.{Mode}
+use Rattle.cells.specs.declared.Mode.the-variants.{Fm, Mfm}
+use Rattle.cells.proofs.Coding.{read-back, high-lt, low-lt}
+use Rattle.cells.proofs.Digits.{bit-lt}
+use Rattle.cells.proofs.Joined.{aligned}
+use Rattle.format.specs.Order.{Symbol, plain, mark, image, run, bytes}
+use Rattle.layouts.specs.Layouts.{Every}
+use Rattle.format.proofs.Symbols.{length-string}
+use Rattle.marks.specs.Marks.{string, markByte}
+use Rattle.marks.specs.declared.Mark.{Mark}
+use Rattle.marks.specs.declared.Mark.the-variants.{Index, Identifier, Data, Control, Open}
+use Rattle.marks.proofs.Spelling.{Stand}
+use Rattle.read.specs.Walk.{markCells}
+use Rattle.promises.specs.RoundTrip.{Byte}
+
+-- ---- bytes
+
+-- Two lists of bytes are one, and the parts of such a list are such lists.
+pub every-append : (xs ys : List ℕ) → Every Byte xs → Every Byte ys → Every Byte (xs ++ ys)
+every-append [] ys f g = g
+every-append (x ∷ xs) ys f g = (f .0, every-append xs ys (f .1) g)
+
+pub every-take : (k : ℕ) (xs : List ℕ) → Every Byte xs → Every Byte (take k xs)
+every-take zero xs f = tt
+every-take (suc k) [] f = tt
+every-take (suc k) (x ∷ xs) f = (f .0, every-take k xs (f .1))
+
+pub every-drop : (k : ℕ) (xs : List ℕ) → Every Byte xs → Every Byte (drop k xs)
+every-drop zero xs f = f
+every-drop (suc k) [] f = tt
+every-drop (suc k) (x ∷ xs) f = every-drop k xs (f .1)
+
+-- Past the end of a list stands 0, a byte too.
+every-at : (xs : List ℕ) (i : ℕ) → Every Byte xs → getD xs i 0 < 256
+every-at [] i f = lit< tt
+every-at (x ∷ xs) zero f = f .0
+every-at (x ∷ xs) (suc i) f = every-at xs i (f .1)
+
+-- Two strings of bytes that stand one behind the other.
+pub stand-append : (c : ℕ → ℕ) (p : ℕ) (xs ys : List ℕ) → Stand c p (xs ++ ys) → Stand c p xs × Stand c (p + 8 * length xs) ys
+stand-append c p [] ys s = (tt, rw add-zero s)
+stand-append c p (x ∷ xs) ys s =
+    let rest = stand-append c (p + 8) xs ys (s .1) in
+    let e : p + 8 + 8 * length xs ≡ p + 8 * suc (length xs) = omega arith in
+    ((s .0, rest .0), rw e at (rest .1))
+
+-- ---- symbols
+
+-- The symbols ss stand from cell p on, after some bit.
+abbrev pub On : Mode → (ℕ → ℕ) → ℕ → List Symbol → Type 0
+On mode c p ss = (b : ℕ) × (b < 2) × Stand c p (image mode b ss)
+
+module _ (mode : Mode) (c : ℕ → ℕ) where
+  -- The same at an equal cell.
+  pub on-move : (p q : ℕ) (ss : List Symbol) → p ≡ q → On mode c p ss → On mode c q ss
+  on-move p q ss e o = rw e at o
+
+  -- Behind a byte,
+  on-plain : (p x : ℕ) (ss : List Symbol) → On mode c p (plain x ∷ ss) → On mode c (p + 16) ss
+  unfolding image
+  on-plain p x ss o = (x % 2, bit-lt x, rw (add-assoc p 8 8) at (o .2 .1 .1))
+
+  -- behind a run,
+  pub on-run : (p k x : ℕ) (ss : List Symbol) → On mode c p (run k x ss) → On mode c (p + 16 * k) ss
+  unfolding run
+  on-run p zero x ss o = rw add-zero o
+  on-run p (suc k) x ss o =
+      let e : p + 16 + 16 * k ≡ p + 16 * suc k = omega arith in
+      rw e at (on-run (p + 16) k x ss (on-plain p x (run k x ss) o))
+
+  -- and a mark, and behind it.
+  pub on-mark : (p : ℕ) (m : Mark) (ss : List Symbol) → On mode c p (mark m ∷ ss) → Stand c p (string mode m) × On mode c (p + markCells mode) ss
+  unfolding image
+  on-mark p m ss o =
+      let both = stand-append c p (string mode m) (image mode (markByte m % 2) ss) (o .2) in
+      let e : p + 8 * length (string mode m) ≡ p + markCells mode = omega (arith, length-string mode m) in
+      (both .0, (markByte m % 2, bit-lt (markByte m), rw e at (both .1)))
+
+  -- Bytes are read back.
+  pub on-bytes : ((i : ℕ) → c i < 2) → (p : ℕ) (xs : List ℕ) (ss : List Symbol) → Every Byte xs → On mode c p (bytes xs ss)
+      → (dataBytes c p (length xs) ≡ xs) × On mode c (p + 16 * length xs) ss
+  unfolding bytes dataBytes image
+  on-bytes bit p [] ss f o = (refl, rw add-zero o)
+  on-bytes bit p (x ∷ xs) ss f o =
+      let rest = on-bytes bit (p + 16) xs ss (f .1) (on-plain p x (bytes xs ss) o) in
+      let e : p + 16 + 16 * length xs ≡ p + 16 * suc (length xs) = omega arith in
+      (ap₂ _∷_ (read-back c bit mode (o .0) x p (f .0) (o .2 .0) (o .2 .1 .0)) (rest .0), rw e at (rest .1))
+
+-- ---- an image
+
+-- The marks' strings are bytes.
+string-bytes : (mode : Mode) (m : Mark) → Every Byte (string mode m)
+string-bytes Fm Index = omega arith
+string-bytes Fm Identifier = omega arith
+string-bytes Fm Data = omega arith
+string-bytes Fm Control = omega arith
+string-bytes Fm Open = omega arith
+string-bytes Mfm Index = omega arith
+string-bytes Mfm Identifier = omega arith
+string-bytes Mfm Data = omega arith
+string-bytes Mfm Control = omega arith
+string-bytes Mfm Open = omega arith
+
+-- All of an image is.
+image-bytes : (mode : Mode) (a : ℕ) (ss : List Symbol) → Every Byte (image mode a ss)
+unfolding image
+image-bytes mode a [] = tt
+image-bytes mode a (plain x ∷ ss) = (high-lt mode a x, (low-lt mode x, image-bytes mode (x % 2) ss))
+image-bytes mode a (mark m ∷ ss) =
+    every-append (string mode m) (image mode (markByte m % 2) ss) (string-bytes mode m) (image-bytes mode (markByte m % 2) ss)
+
+-- Where each octet is the list's byte, the list stands.
+stand-of : (c : ℕ → ℕ) (p : ℕ) (xs : List ℕ) → ((i : ℕ) → octet c (p + 8 * i) ≡ getD xs i 0) → Stand c p xs
+stand-of c p [] f = tt
+stand-of c p (x ∷ xs) f = (
+  rw add-zero at (f 0),
+  stand-of c (p + 8) xs (λ i. let e : p + 8 + 8 * i ≡ p + 8 * suc i = omega arith in rw e (f (suc i))),
+)
+
+-- The symbols of an image stand in its cells from 0 on.
+pub on-image : (mode : Mode) (ss : List Symbol) → On mode (cell (image mode 0 ss)) 0 ss
+on-image mode ss =
+    let s = image mode 0 ss in
+    let f = image-bytes mode 0 ss in
+    (0, lit< tt, stand-of (cell s) 0 s (λ i. rw zero-add (aligned s i (every-at s i f) (every-at s (i + 1) f))))
