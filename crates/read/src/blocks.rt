@@ -25,10 +25,10 @@ ghost use Rattle.read.specs.declared.Answer.the-variants.{Refused};
 pub(crate) fn clear(area: &mut [u8])
     ensures { λ _. ⌜ now (area .exit) ≡ replicate (length (now (area .entry))) 0 ⌝ }
 {
-    let mut i = 0;
-    while i < area.len() {
-        area[i] = 0;
-        i += 1;
+    let mut done = 0;
+    while done < area.len() {
+        area[done] = 0;
+        done += 1;
     }
 }
 
