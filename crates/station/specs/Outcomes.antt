@@ -18,8 +18,10 @@ use Rattle.layouts.specs.declared.Checked.{Checked}
 use Rattle.layouts.specs.declared.Checked.the-variants.{Passed, Refused}
 use Rattle.read.specs.Answers.{answerNumber}
 use Rattle.read.specs.Outcomes.{readAnswer, readArea}
+use Rattle.read.specs.Picks.{pickedOf}
 use Rattle.read.specs.Turns.{blank}
 use Rattle.read.specs.declared.Record.{Record}
+use Rattle.station.specs.Picks.{numberedRecords, pickNumber, partOf, partList}
 
 -- `station_edc` answers the EDC of the bytes.
 abbrev pub GivesEdc : List ℕ → ℕ → Type 0
@@ -63,3 +65,9 @@ pub record GivesRead (layout cylinder side : ℕ) (image : List ℕ) (given numb
       answers ≡ answerList (readAnswer layout cylinder side image given .sectors) (readAnswer layout cylinder side image given .records .list)
   pub counted :
       counts ≡ readAnswer layout cylinder side image given .bad ∷ readAnswer layout cylinder side image given .foreign ∷ []
+
+-- `station_pick` gives the number of what is picked from two passes, by the numbers of their answers, and where its bytes are.
+pub record GivesPick (layout sector : ℕ) (first ones second twos : List ℕ) (number : ℕ) (taken : List ℕ) : Type 0 where
+  pub numbered : number ≡ pickNumber (pickedOf layout sector first (numberedRecords ones) second (numberedRecords twos))
+  pub placed :
+      taken ≡ partList (partOf (layoutOf layout) sector (pickedOf layout sector first (numberedRecords ones) second (numberedRecords twos)))

@@ -8,7 +8,9 @@ ghost use Prim.Native.Nat.{_+_, _*_, _<_};
 ghost use lib.ListN.{length};
 ghost use Rattle.cells.specs.Coding.{high, low};
 ghost use Rattle.cells.specs.declared.Mode.the-variants.{Fm, Mfm};
-ghost use Rattle.station.specs.Outcomes.{GivesEdc, GivesCoded, GivesDataByte, GivesFormat, GivesRead, verdictNumber, answerAt, answerList};
+ghost use Rattle.station.specs.Outcomes.{GivesEdc, GivesCoded, GivesDataByte, GivesFormat, GivesRead, GivesPick, verdictNumber, answerAt, answerList};
+
+mod pick;
 
 // The EDC of the bytes, with the register all ones at the start.
 #[no_mangle]
@@ -131,4 +133,26 @@ pub extern "C" fn station_read(
     list_answers(reading.sectors, records, answers);
     list_counts(reading.bad, reading.foreign, counts);
     verdict_number(verdict)
+}
+
+// Picks a sector from two passes over one track: the number of its answer, or of the refusal. Each pass is the area and the answers that
+// `station_read` gave; a number that is no answer's counts as 21. `taken` gets the pass that the sector is taken from (1 the first, 2 the
+// second), the first byte of its slot in that pass's area and the slot's length, or zeros where neither pass answered or the call is refused.
+#[no_mangle]
+pub extern "C" fn station_pick(
+    layout: u32,
+    sector: u32,
+    first: &[u8],
+    first_answers: &[u8; 26],
+    second: &[u8],
+    second_answers: &[u8; 26],
+    taken: &mut [u32; 3],
+) -> u8
+    ensures { λ r. ⌜ GivesPick layout sector (now (first .entry)) (now («first_answers» .entry)) (now (second .entry)) (now («second_answers» .entry)) r (now (taken .exit)) ⌝ }
+{
+    let one = pick::records_of(first_answers);
+    let two = pick::records_of(second_answers);
+    let picked = read::picked(layout, sector, first, one, second, two);
+    pick::list_part(pick::part_of(layout, sector, picked), taken);
+    pick::pick_number(picked)
 }
