@@ -1,11 +1,5 @@
 pub mod Facts
 pub mod Unique
-pub mod Standing
-pub mod Quiet
-pub mod Gaps
-pub mod Held
-pub mod Rounds
-pub mod Single
-pub mod Trip
-pub mod Calls
 pub mod Demands
+pub mod formatting
+pub mod rewriting

@@ -2,3 +2,5 @@ pub mod Facts
 pub mod Unique
 pub mod RoundTrip
 pub mod Reading
+pub mod Cuts
+pub mod Rewriting

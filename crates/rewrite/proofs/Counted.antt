@@ -36,6 +36,14 @@ count-most l place bytes = go (follows (l .mode) (blockEnd l place) bytes)
     go true = omega arith
     go false = omega arith
 
+pub count-least : (l : Layout) (place bytes : ℕ) → 2 * l .size + 6 ≤ storeCount l place bytes
+unfolding storeCount
+count-least l place bytes = go (follows (l .mode) (blockEnd l place) bytes)
+  where
+    go : (b : Bool) → 2 * l .size + 6 ≤ 2 * l .size + cond b 7 6
+    go true = omega arith
+    go false = omega arith
+
 -- The byte after the block, by its first data cell.
 pub joined-zero : (bit byte : ℕ) → byte / 64 % 2 ≡ 0 → 128 * (1 - bit) + byte % 128 ≡ joined bit byte
 unfolding joined

@@ -1,5 +1,5 @@
 -- The list of stores stays the same while its stores are made, so that every step finds the list that the first one found; what the store of
--- the byte after the block keeps; and that every store is of a byte.
+-- the byte after the block keeps; and that coded bytes are bytes.
 use mathlib.Core.Path.{_≡_, refl, ap, _∙_}
 use mathlib.Core.Bool.{Bool, true, false, cond}
 use mathlib.Core.List.{List, [], _∷_}
@@ -11,28 +11,26 @@ use lib.Dec.{eqb, lit<}
 use lib.ListN.{length, getD, set, length-set}
 use lib.Seq.{getD-set-same, getD-set-other}
 use Rattle.cells.specs.declared.Mode.{Mode}
-use Rattle.cells.specs.declared.Mode.the-variants.{Fm, Mfm}
 use Rattle.cells.proofs.Coding.{high-lt, low-lt}
 use Rattle.layouts.specs.declared.Layout.{Layout}
 use Rattle.marks.specs.declared.Mark.{Mark}
-use Rattle.marks.specs.declared.Mark.the-variants.{Index, Identifier, Data, Control, Open}
-use Rattle.rewrite.specs.Stores.{stored, blockEnd, lastByte, coding, newEdc, joined, stores}
+use Rattle.rewrite.specs.Stores.{stored, blockEnd, coding, newEdc, joined, stores}
 use Rattle.rewrite.specs.declared.Store.{Store}
 use Rattle.rewrite.proofs.Listed.{mark-last, follows-true, Kind, opens, codes, joins, closes}
 
--- The byte after the block is the same whether it is stored once or twice.
-joined-twice : (bit byte : ℕ) → joined bit (joined bit byte) ≡ joined bit byte
+-- Stored twice, the byte after the block becomes what the second store alone makes of it.
+joined-again : (other bit byte : ℕ) → joined other (joined bit byte) ≡ joined other byte
 unfolding joined
-joined-twice bit byte = go (1 - bit) (eqb (byte / 64 % 2) 0) refl
+joined-again other bit byte = go (1 - other) (1 - bit) (eqb (byte / 64 % 2) 0) refl
   where
-    go : (x : ℕ) (b : Bool) → eqb (byte / 64 % 2) 0 ≡ b
+    go : (y x : ℕ) (b : Bool) → eqb (byte / 64 % 2) 0 ≡ b
         → let once = cond b (128 * x + byte % 128) byte in
-        cond (eqb (once / 64 % 2) 0) (128 * x + once % 128) once ≡ once
-    go x true e =
+        cond (eqb (once / 64 % 2) 0) (128 * y + once % 128) once ≡ cond (eqb (byte / 64 % 2) 0) (128 * y + byte % 128) byte
+    go y x true e =
         let h : (128 * x + byte % 128) / 64 % 2 ≡ byte / 64 % 2 = omega arith in
         let k : (128 * x + byte % 128) % 128 ≡ byte % 128 = omega arith in
         rw (h, e, k)
-    go x false e = rw e
+    go y x false e = rw e
 
 -- It keeps all but its first cell, and that too unless its first data cell is 0.
 pub joined-kept : (bit byte : ℕ) → (joined bit byte % 128 ≡ byte % 128) × ((joined bit byte ≡ byte) ⊎ (byte / 64 % 2 ≡ 0))
@@ -45,28 +43,8 @@ joined-kept bit byte = go (1 - bit) (eqb (byte / 64 % 2) 0) refl
     go x true e = (omega arith, inr (eqb-true (byte / 64 % 2) 0 e))
     go x false e = (refl, inl refl)
 
-joined-lt : (bit byte : ℕ) → byte < 256 → joined bit byte < 256
-unfolding joined
-joined-lt bit byte h = go (1 - bit) (omega arith) (eqb (byte / 64 % 2) 0)
-  where
-    go : (x : ℕ) → x < 2 → (b : Bool) → cond b (128 * x + byte % 128) byte < 256
-    go x u true = omega arith
-    go x u false = h
-
-last-lt : (mode : Mode) (mark : Mark) → lastByte mode mark < 256
-unfolding lastByte
-last-lt Fm Index = lit< tt
-last-lt Fm Identifier = lit< tt
-last-lt Fm Data = lit< tt
-last-lt Fm Control = lit< tt
-last-lt Fm Open = lit< tt
-last-lt Mfm Index = lit< tt
-last-lt Mfm Identifier = lit< tt
-last-lt Mfm Data = lit< tt
-last-lt Mfm Control = lit< tt
-last-lt Mfm Open = lit< tt
-
-coding-lt : (mode : Mode) (b : ℕ) (xs : List ℕ) (at : ℕ) → getD (coding mode b xs) at 0 < 256
+-- Coded bytes are bytes.
+pub coding-lt : (mode : Mode) (b : ℕ) (xs : List ℕ) (at : ℕ) → getD (coding mode b xs) at 0 < 256
 unfolding coding
 coding-lt mode b [] at = lit< tt
 coding-lt mode b (x ∷ xs) zero = high-lt mode (b % 2) x
@@ -89,21 +67,15 @@ module _ (l : Layout) (image : List ℕ) (place : ℕ) (mark : Mark) (contents :
       alike (set image p v) (length-set image p v)
       (ap (joined (newEdc (l .mode) mark contents % 2)) (getD-set-other image p (blockEnd l place) v 0 (λ e. omega arith)))
 
-  -- Every store leaves the list as it is.
-  pub stores-fixed : (k : ℕ) (store : Store) → Kind l image place mark contents k store
-      → stores l (stored image store) place mark contents ≡ stores l image place mark contents
-  stores-fixed k store (opens e) = before-end _ _ (omega (arith, mark-last (l .mode)))
-  stores-fixed k store (codes j e h) = before-end _ _ (omega arith)
-  stores-fixed k store (joins e f) =
-      alike (set image (blockEnd l place) _) (length-set image _ _)
-      (ap (joined (newEdc (l .mode) mark contents % 2))
+module _ (l : Layout) (image : List ℕ) (place : ℕ) (mark : Mark) (contents : List ℕ) where
+  -- A store leaves the list as it is: that of its own rewrite, and that of every other rewrite of the block.
+  pub stores-fixed : (other : Mark) (bytes : List ℕ) (k : ℕ) (store : Store) → Kind l image place mark contents k store
+      → stores l (stored image store) place other bytes ≡ stores l image place other bytes
+  stores-fixed other bytes k store (opens e) = before-end l image place other bytes _ _ (omega (arith, mark-last (l .mode)))
+  stores-fixed other bytes k store (codes j e h) = before-end l image place other bytes _ _ (omega arith)
+  stores-fixed other bytes k store (joins e f) =
+      alike l image place other bytes (set image (blockEnd l place) _) (length-set image _ _)
+      (ap (joined (newEdc (l .mode) other bytes % 2))
       (getD-set-same image (blockEnd l place) _ 0 (follows-true (l .mode) (blockEnd l place) (length image) f .1))
-      ∙ joined-twice (newEdc (l .mode) mark contents % 2) (getD image (blockEnd l place) 0))
-  stores-fixed k store (closes e) = before-end _ _ (omega (arith, mark-last (l .mode)))
-
-  -- Every store is of a byte, if the byte after the block is one.
-  pub value-lt : getD image (blockEnd l place) 0 < 256 → (k : ℕ) (store : Store) → Kind l image place mark contents k store → store .value < 256
-  value-lt h k store (opens e) = last-lt (l .mode) Open
-  value-lt h k store (codes j e u) = coding-lt (l .mode) _ _ j
-  value-lt h k store (joins e f) = joined-lt (newEdc (l .mode) mark contents % 2) (getD image (blockEnd l place) 0) h
-  value-lt h k store (closes e) = last-lt (l .mode) mark
+      ∙ joined-again (newEdc (l .mode) other bytes % 2) (newEdc (l .mode) mark contents % 2) (getD image (blockEnd l place) 0))
+  stores-fixed other bytes k store (closes e) = before-end l image place other bytes _ _ (omega (arith, mark-last (l .mode)))

@@ -23,7 +23,7 @@ use Rattle.layouts.proofs.Layouts.{layout-known}
 use Rattle.layouts.proofs.Refusals.{refusal-append-passed, passed-both, track-known}
 use Rattle.read.specs.Outcomes.{readTests, readAnswer, readArea}
 use Rattle.promises.specs.RoundTrip.{Byte, Legible, ReadsBack, ReadsBackAsWritten}
-use Rattle.promises.proofs.Trip.{round-trip, natural}
+use Rattle.promises.proofs.formatting.Trip.{round-trip, natural}
 
 -- ---- the layouts
 

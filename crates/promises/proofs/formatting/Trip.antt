@@ -25,9 +25,9 @@ use Rattle.read.specs.declared.Fault.the-variants.{NoIdentifier}
 use Rattle.read.specs.declared.Answer.the-variants.{Refused}
 use Rattle.read.specs.declared.Record.{Record}
 use Rattle.promises.specs.RoundTrip.{Byte, Legible, Numbered, times, Ordered, acceptedFrom, markAnswer, markRecord, met, ReadsBack}
-use Rattle.promises.proofs.Single.{none-bad, none-foreign, single, single-answer, single-slot}
-use Rattle.promises.proofs.Rounds.{walk-held}
-use Rattle.promises.proofs.Held.{fields-sum, Held, track-held}
+use Rattle.promises.proofs.formatting.Single.{none-bad, none-foreign, single, single-answer, single-slot}
+use Rattle.promises.proofs.formatting.Rounds.{walk-held}
+use Rattle.promises.proofs.formatting.Held.{fields-sum, Held, track-held}
 
 -- ---- from the sectors to the whole
 

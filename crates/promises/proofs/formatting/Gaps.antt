@@ -20,8 +20,8 @@ use Rattle.marks.specs.declared.Mark.the-variants.{Index, Identifier, Data, Con
 use Rattle.marks.proofs.Searching.{string-two, le-or-lt}
 use Rattle.marks.proofs.Spelling.{Stand}
 use Rattle.read.specs.Walk.{markCells}
-use Rattle.promises.proofs.Standing.{On, on-run, stand-append}
-use Rattle.promises.proofs.Quiet.{Clear, Quiet, quiet-none, quiet-join, hits, clear-by, clear-beyond, calm, Calm, quiet-calm}
+use Rattle.promises.proofs.formatting.Standing.{On, on-run, stand-append}
+use Rattle.promises.proofs.formatting.Quiet.{Clear, Quiet, quiet-none, quiet-join, hits, clear-by, clear-beyond, calm, Calm, quiet-calm}
 
 -- ---- the tests
 

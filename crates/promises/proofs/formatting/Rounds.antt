@@ -36,8 +36,8 @@ use Rattle.read.specs.declared.Event.the-variants.{Accepted}
 use Rattle.read.specs.declared.Round.the-variants.{Ends, Meets}
 use Rattle.read.proofs.Ways.{only, none, block}
 use Rattle.promises.specs.RoundTrip.{Numbered, acceptedFrom}
-use Rattle.promises.proofs.Quiet.{Clear, Quiet}
-use Rattle.promises.proofs.Held.{identifierCell, blockCell, turn, fields-sum, Sector, Held}
+use Rattle.promises.proofs.formatting.Quiet.{Clear, Quiet}
+use Rattle.promises.proofs.formatting.Held.{identifierCell, blockCell, turn, fields-sum, Sector, Held}
 
 -- ---- what a search finds
 

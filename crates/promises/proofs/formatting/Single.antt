@@ -27,8 +27,8 @@ use Rattle.read.specs.declared.Block.{Block}
 use Rattle.read.specs.declared.Block.the-variants.{Within}
 use Rattle.read.specs.declared.Answer.the-variants.{Data, Control}
 use Rattle.promises.specs.RoundTrip.{times, acceptedFrom, markAnswer}
-use Rattle.promises.proofs.Rounds.{stands-at, edc-right}
-use Rattle.promises.proofs.Held.{blockCell, Sector, Held}
+use Rattle.promises.proofs.formatting.Rounds.{stands-at, edc-right}
+use Rattle.promises.proofs.formatting.Held.{blockCell, Sector, Held}
 
 -- ---- what the list of accepted sectors says
 

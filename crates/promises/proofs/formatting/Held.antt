@@ -25,9 +25,9 @@ use Rattle.marks.specs.declared.Mark.the-variants.{Index, Identifier}
 use Rattle.marks.proofs.Spelling.{Stand}
 use Rattle.read.specs.Walk.{markCells, blockCells}
 use Rattle.promises.specs.RoundTrip.{Byte, Legible, Numbered}
-use Rattle.promises.proofs.Standing.{every-append, every-take, every-drop, On, on-move, on-mark, on-bytes, on-image}
-use Rattle.promises.proofs.Quiet.{Quiet, quiet-none, quiet-join}
-use Rattle.promises.proofs.Gaps.{gap-mark, quiet-index, gap-last}
+use Rattle.promises.proofs.formatting.Standing.{every-append, every-take, every-drop, On, on-move, on-mark, on-bytes, on-image}
+use Rattle.promises.proofs.formatting.Quiet.{Quiet, quiet-none, quiet-join}
+use Rattle.promises.proofs.formatting.Gaps.{gap-mark, quiet-index, gap-last}
 
 -- ---- a mark and its bytes
 

@@ -1,0 +1,19 @@
+-- Demand 3: a rewrite that is cut anywhere.
+pub mod Searches
+pub mod Marks
+pub mod Rounds
+pub mod Claims
+pub mod Rewritten
+pub mod Walk
+pub mod Answers
+pub mod Touched
+pub mod Fitting
+pub mod Cutting
+pub mod Fitted
+pub mod Filled
+pub mod Granted
+pub mod Overwritten
+pub mod Running
+pub mod Rereading
+pub mod Surviving
+pub mod Demanded

@@ -1,0 +1,167 @@
+-- Demand 3: a rewrite is a fixed list of single-byte stores, and it may be cut after any of them. Said here of a request that is accepted: what
+-- its steps do one after the other, how the image reads wherever they are cut, and that starting again ends as if nothing had been cut.
+use mathlib.Core.List.{List, [], _∷_}
+use mathlib.Core.Path.{_≡_}
+use Prim.Native.Nat.{ℕ, suc, _-_, _*_, _<_, _≤_}
+use lib.ListN.{length, getD, set, replicate}
+use lib.Seq.{sets}
+use Rattle.cells.specs.Cells.{cell}
+use Rattle.layouts.specs.Layouts.{layoutOf}
+use Rattle.layouts.specs.Refusals.{refusal, areaTest, markTest, controlTest}
+use Rattle.layouts.specs.declared.Checked.the-variants.{Passed}
+use Rattle.layouts.specs.declared.Refusal.the-variants.{Finished}
+use Rattle.marks.specs.Marks.{markOf}
+use Rattle.read.specs.Answers.{bads, foreigns, blocks, slot, recordOf}
+use Rattle.read.specs.Outcomes.{met, Reads}
+use Rattle.read.specs.declared.Answer.{Answer}
+use Rattle.read.specs.declared.Answer.the-variants as answers
+use Rattle.read.specs.declared.Fault.the-variants.{OpenMark}
+use Rattle.read.specs.declared.Reading.{Reading}
+use Rattle.read.specs.declared.Record.{Record}
+use Rattle.rewrite.specs.Stores.{none, stores, storeCount}
+use Rattle.rewrite.specs.Outcomes.{Steps, Requests}
+use Rattle.promises.specs.RoundTrip.{markAnswer}
+use Rattle.promises.specs.Cuts.{cut}
+use Rattle.rewrite.specs.declared.Plan.{Plan}
+use Rattle.rewrite.specs.declared.Requested.the-variants as request
+use Rattle.rewrite.specs.declared.Stepped.{Stepped}
+use Rattle.rewrite.specs.declared.Stepped.the-variants as step
+use Rattle.rewrite.specs.declared.Store.{Store}
+
+-- ---- the words
+
+-- The list holds bytes.
+abbrev pub Bytes : List ℕ → Type 0
+Bytes xs = (i : ℕ) → getD xs i 0 < 256
+
+-- The plan in hand after a step: the one that it handed back; a refused step leaves the plan as it was.
+abbrev pub inHand : Plan → Stepped → Plan
+inHand plan (step.Made next) = next
+inHand plan (step.Refused f) = plan
+
+-- j calls of `step` one after the other, the first with this plan on this image. Each is handed the plan last handed back, the same mark and
+-- contents, and the image as the one before left it. At the end a plan is in hand, and an image is left.
+pub data Ran (mark : ℕ) (contents : List ℕ) (plan : Plan) (image : List ℕ) : ℕ → Plan → List ℕ → Type 0 where
+  begun : Ran mark contents plan image 0 plan image
+  went : (j : ℕ) (held : Plan) (now : List ℕ) (answer : Stepped) (after : List ℕ) → Ran mark contents plan image j held now
+      → Steps held mark contents now answer after → Ran mark contents plan image (suc j) (inHand held answer) after
+
+-- How a sector of an image reads: its record, and what it leaves in its slot.
+module _ (layout cylinder side : ℕ) (image : List ℕ) (x : ℕ) where
+  abbrev pub recordIn : Record
+  recordIn = recordOf (layoutOf layout) (cell image) (8 * length image) (met layout cylinder side image) x
+
+  abbrev pub slotIn : List ℕ
+  slotIn = slot (layoutOf layout) (cell image) (8 * length image) (blocks x (met layout cylinder side image))
+
+-- The sector reads with this answer, and leaves these bytes in its slot.
+abbrev pub ReadsWith : (layout cylinder side : ℕ) → List ℕ → ℕ → Answer → List ℕ → Type 0
+ReadsWith layout cylinder side image x answer bytes =
+    (recordIn layout cylinder side image x ≡ record { answer = answer }) × (slotIn layout cylinder side image x ≡ bytes)
+
+-- The sector reads in one image as in another.
+abbrev pub ReadsAlike : (layout cylinder side : ℕ) → (now before : List ℕ) → ℕ → Type 0
+ReadsAlike layout cylinder side now before x =
+    (recordIn layout cylinder side now x ≡ recordIn layout cylinder side before x)
+    × (slotIn layout cylinder side now x ≡ slotIn layout cylinder side before x)
+
+-- A mark and contents that pass 5, 6 and 7.
+abbrev pub Fit : (layout cylinder mark : ℕ) → List ℕ → Type 0
+Fit layout cylinder mark contents =
+    refusal (areaTest (layoutOf layout .size) (length contents) ∷ markTest mark ∷ controlTest cylinder mark (getD contents 0 0) ∷ []) ≡ Passed
+
+-- ---- the steps
+
+-- How many stores a rewrite by the plan makes: 2N + 7, or 2N + 6 in FM and at the image's end.
+abbrev pub number : (layout : ℕ) → List ℕ → Plan → ℕ
+number layout image plan = storeCount (layoutOf layout) (plan .place) (length image)
+
+-- The plan with j stores made.
+abbrev pub planAt : Plan → ℕ → Plan
+planAt plan j = record { layout = plan .layout; place = plan .place; made = j }
+
+module _ (layout mark : ℕ) (contents image : List ℕ) (plan : Plan) where
+  -- The fixed list of stores, and the image with the first j of them made.
+  abbrev pub list : List Store
+  list = stores (layoutOf layout) image (plan .place) (markOf mark) contents
+
+  abbrev pub after : ℕ → List ℕ
+  after j = cut (layoutOf layout) image (plan .place) (markOf mark) contents j
+
+  -- The steps of an accepted request, the plan being the request's: they make the list, one store each.
+  pub record Stepwise : Type 0 where
+    -- The list has that number of stores.
+    pub counts : length list ≡ number layout image plan
+    -- After j steps the image is the first j stores made, and the plan in hand says j: that can come about, and nothing else can.
+    pub runs : (j : ℕ) → j ≤ number layout image plan → Ran mark contents plan image j (planAt plan j) (after j)
+    pub only : (j : ℕ) (held : Plan) (now : List ℕ) → j ≤ number layout image plan → Ran mark contents plan image j held now
+        → (held ≡ planAt plan j) × (now ≡ after j)
+    -- None of the steps is refused, the last included: the step after j others makes the next store and counts it.
+    pub makes : (j : ℕ) (held : Plan) (now : List ℕ) (answer : Stepped) (next : List ℕ) → j < number layout image plan
+        → Ran mark contents plan image j held now → Steps held mark contents now answer next
+        → (answer ≡ step.Made (planAt plan (suc j))) × (next ≡ after (suc j))
+    -- It changes at most the byte that it stores.
+    pub changes : (j : ℕ) (held : Plan) (now : List ℕ) (answer : Stepped) (next : List ℕ) → j < number layout image plan
+        → Ran mark contents plan image j held now → Steps held mark contents now answer next
+        → (length next ≡ length now) × ((i : ℕ) → (i ≡ getD list j none .place → ⊥) → getD next i 0 ≡ getD now i 0)
+    -- The step after the last is refused 12, and changes nothing.
+    pub refuses : (held : Plan) (now : List ℕ) (answer : Stepped) (next : List ℕ)
+        → Ran mark contents plan image (number layout image plan) held now → Steps held mark contents now answer next
+        → (answer ≡ step.Refused Finished) × (next ≡ now)
+
+-- ---- a cut
+
+-- What `read` answers, with another record for one sector.
+abbrev pub withRecord : Reading → (sector : ℕ) → Record → Reading
+withRecord reading sector x =
+    record {
+      verdict = reading .verdict;
+      sectors = reading .sectors;
+      records = record { list = set (reading .records .list) (sector - 1) x };
+      bad = reading .bad;
+      foreign = reading .foreign;
+    }
+
+-- A rewrite was cut after j stores, and left the image `now`.
+pub record Survives (layout cylinder side sector mark : ℕ) (contents image : List ℕ) (plan : Plan) (j : ℕ) (now : List ℕ) : Type 0 where
+  -- Every other sector reads as before, and both counts are as before.
+  pub others : (x : ℕ) → (x ≡ sector → ⊥) → ReadsAlike layout cylinder side now image x
+  pub bad : bads (met layout cylinder side now) ≡ bads (met layout cylinder side image)
+  pub foreign : foreigns (met layout cylinder side now) ≡ foreigns (met layout cylinder side image)
+  -- The sector itself reads as before if no store was made; it is refused as open if some were made but not all; after the last it is the new
+  -- one.
+  pub unbegun : j ≡ 0 → ReadsAlike layout cylinder side now image sector
+  pub opened : 0 < j → j < number layout image plan
+      → ReadsWith layout cylinder side now sector (answers.Refused OpenMark) (replicate (layoutOf layout .size) 0)
+  pub written : j ≡ number layout image plan → ReadsWith layout cylinder side now sector (markAnswer mark) contents
+  -- In the words of `read`: it answers what it answers of the first image, but for this one record, and leaves the same, but for this one slot.
+  pub reads : (before answer : Reading) (area left : List ℕ)
+      → Reads layout cylinder side image (layoutOf layout .«area_bytes») before area
+      → Reads layout cylinder side now (layoutOf layout .«area_bytes») answer left
+      → (answer ≡ withRecord before sector (recordIn layout cylinder side now sector))
+      × (left ≡ sets area ((sector - 1) * layoutOf layout .size) (slotIn layout cylinder side now sector))
+
+-- Starting again on the image `now` that a cut left of `image`, with a mark and contents that pass 5, 6 and 7. The request is accepted, with the
+-- plan that it gets on the first image too, and all its steps end at the image that they, uncut, make of the first image.
+pub record StartsAgain (layout cylinder side sector : ℕ) (plan : Plan) (image now : List ℕ) (mark : ℕ) (contents : List ℕ) : Type 0 where
+  pub accepted : Requests layout cylinder side sector mark contents now (request.Planned plan)
+  pub uncut : Requests layout cylinder side sector mark contents image (request.Planned plan)
+  pub ends : (held other : Plan) (end whole : List ℕ) → Ran mark contents plan now (number layout now plan) held end
+      → Ran mark contents plan image (number layout image plan) other whole → end ≡ whole
+
+-- ---- demand 3
+
+-- A rewrite that may be cut: of every accepted request, on every image, and of every number j of steps up to all. (That the contents are bytes
+-- is their type in the code; only the sector's new slot asks for it.)
+pub record Demand3 : Type 0 where
+  pub steps : (layout cylinder side sector mark : ℕ) (contents image : List ℕ) (plan : Plan)
+      → Requests layout cylinder side sector mark contents image (request.Planned plan) → Stepwise layout mark contents image plan
+  pub survives : (layout cylinder side sector mark : ℕ) (contents image : List ℕ) (plan : Plan)
+      → Requests layout cylinder side sector mark contents image (request.Planned plan)
+      → (j : ℕ) (held : Plan) (now : List ℕ) → j ≤ number layout image plan → Ran mark contents plan image j held now → Bytes contents
+      → Survives layout cylinder side sector mark contents image plan j now
+  pub again : (layout cylinder side sector mark : ℕ) (contents image : List ℕ) (plan : Plan)
+      → Requests layout cylinder side sector mark contents image (request.Planned plan)
+      → (j : ℕ) (held : Plan) (now : List ℕ) → j ≤ number layout image plan → Ran mark contents plan image j held now
+      → (newMark : ℕ) (newContents : List ℕ) → Fit layout cylinder newMark newContents
+      → StartsAgain layout cylinder side sector plan image now newMark newContents
