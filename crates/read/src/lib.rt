@@ -7,6 +7,7 @@ ghost use Rattle.read.specs.Outcomes.{IsFaultNumber, IsAnswerNumber, Rea
 ghost use Rattle.read.specs.Picks.{IsPicked, IsStretch};
 
 mod blocks;
+mod head;
 mod picks;
 mod rounds;
 mod tests;

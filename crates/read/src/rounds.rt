@@ -2,6 +2,8 @@
 use super::Block;
 use super::Event;
 use super::Round;
+use super::head::byte_at;
+use super::head::mark_from;
 use cells::Mode;
 use layouts::Layout;
 use marks::Found;
@@ -67,22 +69,22 @@ fn address_at(mode: Mode, image: &[u8], place: usize) -> Address
     requires { ⌜ place ≤ 4294967296 ⌝ }
     ensures { λ r. ⌜ (r .cylinder ≡ dataByte (cell (now (image .entry))) place) × (r .side ≡ dataByte (cell (now (image .entry))) (place + 16)) × (r .sector ≡ dataByte (cell (now (image .entry))) (place + 32)) × (r .fourth ≡ dataByte (cell (now (image .entry))) (place + 48)) × (r .register ≡ edcOf (covered mode Identifier ++ dataBytes (cell (now (image .entry))) place 6)) ⌝ }
 {
-    let cylinder = cells::data_byte(image, place);
-    let side = cells::data_byte(image, place + 16);
-    let sector = cells::data_byte(image, place + 32);
-    let fourth = cells::data_byte(image, place + 48);
+    let cylinder = byte_at(image, place);
+    let side = byte_at(image, place + 16);
+    let sector = byte_at(image, place + 32);
+    let fourth = byte_at(image, place + 48);
     let start = marks::register_after(mode, Mark::Identifier);
     let one = edc::byte_entered(start, cylinder);
     let two = edc::byte_entered(one, side);
     let three = edc::byte_entered(two, sector);
     let four = edc::byte_entered(three, fourth);
-    let five = edc::byte_entered(four, cells::data_byte(image, place + 64));
+    let five = edc::byte_entered(four, byte_at(image, place + 64));
     Address {
         cylinder,
         side,
         sector,
         fourth,
-        register: edc::byte_entered(five, cells::data_byte(image, place + 80)),
+        register: edc::byte_entered(five, byte_at(image, place + 80)),
     }
 }
 
@@ -109,7 +111,7 @@ fn block_of(layout: Layout, image: &[u8], sector: usize, after: usize) -> Round
     };
     let end = 8 * image.len();
     let to = after + reach_of(mode) + 1;
-    let Found::At(place, mark) = marks::find(mode, kinds, image, after, to) else {
+    let Found::At(place, mark) = mark_from(mode, kinds, image, after, to) else {
         return Round::Meets(Event::Accepted(sector, Block::Missing), after);
     };
     if !is_block(mark) {
@@ -139,7 +141,7 @@ pub(crate) fn next_round(
         block: false,
     };
     let end = 8 * image.len();
-    let Found::At(mark, _) = marks::find(mode, kinds, image, place, end) else {
+    let Found::At(mark, _) = mark_from(mode, kinds, image, place, end) else {
         return Round::Ends;
     };
     let field = mark + mark_cells(mode);

@@ -7,26 +7,26 @@ use borrow.Author.Needs.{needs}
 use Rattle.read.proofs.rounds.address_at.Statement.{statement}
 use Rattle.read.proofs.rounds.address_at.Tie as tie
 
-data-byte-requires : tie.Need-data-byte-requires
-data-byte-requires c κs = search needs
+byte-at-requires : tie.Need-byte-at-requires
+byte-at-requires c κs = search needs
 
-add-data-byte : tie.Need-add-data-byte
-add-data-byte c = search needs
+add-byte-at : tie.Need-add-byte-at
+add-byte-at c = search needs
 
-data-byte-requires-2 : tie.Need-data-byte-requires-2
-data-byte-requires-2 c κs = search needs
+byte-at-requires-2 : tie.Need-byte-at-requires-2
+byte-at-requires-2 c κs = search needs
 
-add-data-byte-2 : tie.Need-add-data-byte-2
-add-data-byte-2 c = search needs
+add-byte-at-2 : tie.Need-add-byte-at-2
+add-byte-at-2 c = search needs
 
-data-byte-requires-3 : tie.Need-data-byte-requires-3
-data-byte-requires-3 c κs = search needs
+byte-at-requires-3 : tie.Need-byte-at-requires-3
+byte-at-requires-3 c κs = search needs
 
-add-data-byte-3 : tie.Need-add-data-byte-3
-add-data-byte-3 c = search needs
+add-byte-at-3 : tie.Need-add-byte-at-3
+add-byte-at-3 c = search needs
 
-data-byte-requires-4 : tie.Need-data-byte-requires-4
-data-byte-requires-4 c κs = search needs
+byte-at-requires-4 : tie.Need-byte-at-requires-4
+byte-at-requires-4 c κs = search needs
 
 register-after-requires : tie.Need-register-after-requires
 register-after-requires c κs = search needs
@@ -43,20 +43,20 @@ byte-entered-requires-3 c κs = search needs
 byte-entered-requires-4 : tie.Need-byte-entered-requires-4
 byte-entered-requires-4 c κs = search needs
 
-add-data-byte-4 : tie.Need-add-data-byte-4
-add-data-byte-4 c = search needs
+add-byte-at-4 : tie.Need-add-byte-at-4
+add-byte-at-4 c = search needs
 
-data-byte-requires-5 : tie.Need-data-byte-requires-5
-data-byte-requires-5 c κs = search needs
+byte-at-requires-5 : tie.Need-byte-at-requires-5
+byte-at-requires-5 c κs = search needs
 
 byte-entered-requires-5 : tie.Need-byte-entered-requires-5
 byte-entered-requires-5 c κs = search needs
 
-add-data-byte-5 : tie.Need-add-data-byte-5
-add-data-byte-5 c = search needs
+add-byte-at-5 : tie.Need-add-byte-at-5
+add-byte-at-5 c = search needs
 
-data-byte-requires-6 : tie.Need-data-byte-requires-6
-data-byte-requires-6 c κs = search needs
+byte-at-requires-6 : tie.Need-byte-at-requires-6
+byte-at-requires-6 c κs = search needs
 
 byte-entered-requires-6 : tie.Need-byte-entered-requires-6
 byte-entered-requires-6 c κs = search needs
@@ -64,16 +64,16 @@ byte-entered-requires-6 c κs = search needs
 returns : tie.Need-returns
 returns c =
     let a = c .before .before .before .before .before .before .before .before .before .before .before .before .before .before .args in
-    let c1 = c .before .before .before .before .before .before .before .before .before .before .before .before .data-byte .ensures in
-    let c2 = c .before .before .before .before .before .before .before .before .before .before .before .data-byte2 .ensures in
-    let c3 = c .before .before .before .before .before .before .before .before .before .before .data-byte3 .ensures in
-    let c4 = c .before .before .before .before .before .before .before .before .before .data-byte4 .ensures in (
+    let c1 = c .before .before .before .before .before .before .before .before .before .before .before .before .byte-at .ensures in
+    let c2 = c .before .before .before .before .before .before .before .before .before .before .before .byte-at2 .ensures in
+    let c3 = c .before .before .before .before .before .before .before .before .before .before .byte-at3 .ensures in
+    let c4 = c .before .before .before .before .before .before .before .before .before .byte-at4 .ensures in (
       c1,
       c2,
       c3,
       c4,
       six-entered (a .mode) Identifier (cell (now (a .image))) (a .place) _ _ _ _ _ _ _ _ _ _ _ _ _ (c .before .before .before .before .before .before .before .before .register-after .ensures) c1 c2 c3 c4
-          (c .before .before .before .data-byte5 .ensures) (c .before .data-byte6 .ensures) (c .before .before .before .before .before .before .before .byte-entered .ensures) (c .before .before .before .before .before .before .byte-entered2 .ensures)
+          (c .before .before .before .byte-at5 .ensures) (c .before .byte-at6 .ensures) (c .before .before .before .before .before .before .before .byte-entered .ensures) (c .before .before .before .before .before .before .byte-entered2 .ensures)
           (c .before .before .before .before .before .byte-entered3 .ensures) (c .before .before .before .before .byte-entered4 .ensures) (c .before .before .byte-entered5 .ensures) (c .byte-entered6 .ensures),
     )
 
@@ -81,22 +81,22 @@ pub address-at-spec : {M : Type 1} → statement M
 address-at-spec =
     tie.close
     (tie.spec
-    data-byte-requires
-    add-data-byte
-    data-byte-requires-2
-    add-data-byte-2
-    data-byte-requires-3
-    add-data-byte-3
-    data-byte-requires-4
+    byte-at-requires
+    add-byte-at
+    byte-at-requires-2
+    add-byte-at-2
+    byte-at-requires-3
+    add-byte-at-3
+    byte-at-requires-4
     register-after-requires
     byte-entered-requires
     byte-entered-requires-2
     byte-entered-requires-3
     byte-entered-requires-4
-    add-data-byte-4
-    data-byte-requires-5
+    add-byte-at-4
+    byte-at-requires-5
     byte-entered-requires-5
-    add-data-byte-5
-    data-byte-requires-6
+    add-byte-at-5
+    byte-at-requires-6
     byte-entered-requires-6
     returns)

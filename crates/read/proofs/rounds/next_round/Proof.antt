@@ -9,8 +9,8 @@ use Rattle.read.proofs.rounds.next_round.Tie as tie
 mul-end : tie.Need-mul-end
 mul-end c = search needs
 
-find-requires : tie.Need-find-requires
-find-requires c κs = search needs
+mark-from-requires : tie.Need-mark-from-requires
+mark-from-requires c κs = search needs
 
 enum-known-mark : tie.Need-enum-known-mark
 enum-known-mark c = search needs
@@ -19,29 +19,29 @@ enum-told : tie.Need-enum-told
 enum-told c = search needs
 
 returns : tie.Need-returns
-returns c = round-none _ _ _ _ _ _ _ (c .before .before .find .ensures) (c .enum-told .given .1)
+returns c = round-none _ _ _ _ _ _ _ (c .before .before .mark-from .ensures) (c .enum-told .given .1)
 
 mark-cells-requires : tie.Need-mark-cells-requires
 mark-cells-requires c κs = search needs
 
 add-field : tie.Need-add-field
 add-field c =
-    let h = found-high _ _ _ _ _ _ _ _ _ (c .before .before .before .before .find .ensures) (c .before .before .mark .given .1) in
+    let h = found-high _ _ _ _ _ _ _ _ _ (c .before .before .before .before .mark-from .ensures) (c .before .before .mark .given .1) in
     omega (arith, c .mark-cells .ensures .1, c .before .before .before .before .before .before .pre)
 
 add-after : tie.Need-add-after
 add-after c =
-    let h = found-high _ _ _ _ _ _ _ _ _ (c .before .before .before .before .find .ensures) (c .before .before .mark .given .1) in
+    let h = found-high _ _ _ _ _ _ _ _ _ (c .before .before .before .before .mark-from .ensures) (c .before .before .mark .given .1) in
     omega (arith, c .mark-cells .ensures .1, c .before .before .before .before .before .before .pre)
 
 returns-2 : tie.Need-returns-2
-returns-2 c = round-short _ _ _ _ _ _ _ (c .before .before .before .before .before .find .ensures) _ _ _ (c .before .before .before .mark .given .1) (c .before .mark-cells .ensures .0) (c .if1 .taken)
+returns-2 c = round-short _ _ _ _ _ _ _ (c .before .before .before .before .before .mark-from .ensures) _ _ _ (c .before .before .before .mark .given .1) (c .before .mark-cells .ensures .0) (c .if1 .taken)
 
 address-at-requires : tie.Need-address-at-requires
 address-at-requires c κs = search needs
 
 returns-3 : tie.Need-returns-3
-returns-3 c = round-bad _ _ _ _ _ _ _ (c .before .before .before .before .before .before .before .before .find .ensures) _ _ _ (c .before .before .before .before .before .before .mark .given .1) (c .before .before .before .before .mark-cells .ensures .0) (c .before .before .before .if1 .left) _ (c .before .before .address-at .ensures .4) (c .if2 .taken)
+returns-3 c = round-bad _ _ _ _ _ _ _ (c .before .before .before .before .before .before .before .before .mark-from .ensures) _ _ _ (c .before .before .before .before .before .before .mark .given .1) (c .before .before .before .before .mark-cells .ensures .0) (c .before .before .before .if1 .left) _ (c .before .before .address-at .ensures .4) (c .if2 .taken)
 
 is-ours-requires : tie.Need-is-ours-requires
 is-ours-requires c κs = search needs
@@ -49,7 +49,7 @@ is-ours-requires c κs = search needs
 returns-4 : tie.Need-returns-4
 returns-4 c =
     let e = c .before .before .before .before .address-at .ensures in
-    round-foreign _ _ _ _ _ _ _ (c .before .before .before .before .before .before .before .before .before .before .find .ensures) _ _ _ (c .before .before .before .before .before .before .before .before .mark .given .1) (c .before .before .before .before .before .before .mark-cells .ensures .0) (c .before .before .before .before .before .if1 .left) _ (e .4)
+    round-foreign _ _ _ _ _ _ _ (c .before .before .before .before .before .before .before .before .before .before .mark-from .ensures) _ _ _ (c .before .before .before .before .before .before .before .before .mark .given .1) (c .before .before .before .before .before .before .mark-cells .ensures .0) (c .before .before .before .before .before .if1 .left) _ (e .4)
     (c .before .before .if2 .left) _ _ _ _ (e .0) (e .1) (e .2) (e .3) _ (c .before .is-ours .ensures) (not-true _ (c .if3 .taken))
 
 cast-block-of : tie.Need-cast-block-of
@@ -61,7 +61,7 @@ block-of-requires c κs = search needs
 returns-5 : tie.Need-returns-5
 returns-5 c =
     let e = c .before .before .before .before .before .before .address-at .ensures in
-    round-took _ _ _ _ _ _ _ (c .before .before .before .before .before .before .before .before .before .before .before .before .find .ensures) _ _ _ (c .before .before .before .before .before .before .before .before .before .before .mark .given .1) (c .before .before .before .before .before .before .before .before .mark-cells .ensures .0) (c .before .before .before .before .before .before .before .if1 .left) _ (e .4)
+    round-took _ _ _ _ _ _ _ (c .before .before .before .before .before .before .before .before .before .before .before .before .mark-from .ensures) _ _ _ (c .before .before .before .before .before .before .before .before .before .before .mark .given .1) (c .before .before .before .before .before .before .before .before .mark-cells .ensures .0) (c .before .before .before .before .before .before .before .if1 .left) _ (e .4)
     (c .before .before .before .before .if2 .left) _ _ _ _ (e .0) (e .1) (e .2) (e .3) _ (c .before .before .before .is-ours .ensures) _ (not-false _ (c .before .before .if3 .left)) (c .block-of .ensures)
 
 pub next-round-spec : {M : Type 1} → statement M
@@ -69,7 +69,7 @@ next-round-spec =
     tie.close
     (tie.spec
     mul-end
-    find-requires
+    mark-from-requires
     enum-known-mark
     enum-told
     returns
