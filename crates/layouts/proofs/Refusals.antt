@@ -88,6 +88,14 @@ refusal-passed t ts h = go (t .applies) h
     go true e = let z : _≡_ {A = ℕ} 0 1 = cc in absurd (omega arith)
     go false e = (refl, e)
 
+-- One test and those that follow it, where x is what the test says by itself: it refuses and none that follows is asked, or those decide.
+module _ (t : Test) (ts : List Test) (x : Checked) (e : x ≡ refusal (t ∷ [])) where
+  pub first-refuses : (f : Refusal) → x ≡ Refused f → x ≡ refusal (t ∷ ts)
+  first-refuses f h = h ∙ sym (refusal-append-refused (t ∷ []) ts f (sym e ∙ h))
+
+  pub first-passes : x ≡ Passed → refusal ts ≡ refusal (t ∷ ts)
+  first-passes h = sym (refusal-append-passed (t ∷ []) ts (sym e ∙ h))
+
 -- Where 2, 3 and 4 pass, the layout, the cylinder and the side are among those that there are.
 pub track-known : (layout cylinder side : ℕ) → refusal (trackTests layout cylinder side) ≡ Passed → (layout ≤ highest) × (cylinder ≤ highestCylinder) × (side ≤ highestSide)
 unfolding trackTests

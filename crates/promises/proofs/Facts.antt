@@ -6,6 +6,7 @@ use Rattle.cells.specs.Coding.{clock, four, high, low}
 use Rattle.edc.specs.Register.{edcOf, bytesEntered, byteEntered, bitEntered}
 use Rattle.format.specs.Order.{track, sectors, sector, block, run, bytes, checked, image}
 use Rattle.layouts.specs.Layouts.{fields, sectorFields}
+use Rattle.rewrite.specs.Stores.{stores, storing, coding}
 use Rattle.promises.specs.Facts.{Fact, facts, Hold}
 
 -- Two columns that compute to the same hold fact by fact.
@@ -22,5 +23,5 @@ columns [] e = tt
 columns (fact ∷ facts) e = (cc, columns facts (cc))
 
 pub hold : Hold facts
-unfolding facts clock four high low fields sectorFields track sectors sector block run bytes checked image edcOf bytesEntered byteEntered bitEntered
+unfolding facts clock four high low fields sectorFields track sectors sector block run bytes checked image edcOf bytesEntered byteEntered bitEntered stores storing coding
 hold = columns facts refl

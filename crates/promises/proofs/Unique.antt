@@ -19,7 +19,10 @@ use Rattle.read.specs.declared.Fault.{Fault}
 use Rattle.read.specs.declared.Answer.{Answer}
 use Rattle.read.specs.declared.Records.{Records}
 use Rattle.read.specs.declared.Reading.{Reading}
-use Rattle.station.specs.Outcomes.{GivesEdc, GivesCoded, GivesDataByte, GivesFormat, GivesRead, GivesPick}
+use Rattle.rewrite.specs.Outcomes.{CountsStores, Steps, Requests}
+use Rattle.rewrite.specs.declared.Plan.{Plan}
+use Rattle.rewrite.specs.declared.Stepped.{Stepped}
+use Rattle.station.specs.Outcomes.{GivesEdc, GivesCoded, GivesDataByte, GivesFormat, GivesRead, GivesPick, GivesRequest, GivesStep}
 use Rattle.promises.specs.Unique.{Unique}
 
 -- A relation that gives the outcome as a value.
@@ -129,6 +132,18 @@ picked layout sector first one second two = by-value _
 pub pick : (layout sector : ℕ) (first : List ℕ) (one : Records) (second : List ℕ) (two : Records) → Unique (IsStretch layout sector first one second two)
 pick layout sector first one second two = by-value _
 
+-- ---- rewrite
+
+pub stores-in-all : (plan : Plan) (bytes : ℕ) → Unique (CountsStores plan bytes)
+stores-in-all plan bytes = by-value _
+
+pub request : (layout cylinder side sector mark : ℕ) (contents image : List ℕ) → Unique (Requests layout cylinder side sector mark contents image)
+request layout cylinder side sector mark contents image = by-value _
+
+pub step : (plan : Plan) (mark : ℕ) (contents before : List ℕ)
+    → Unique (λ (o : Stepped × List ℕ). Steps plan mark contents before (o .0) (o .1))
+step plan mark contents before x y p q = by-values _ _ x y (p .answers, p .leaves) (q .answers, q .leaves)
+
 -- ---- station
 
 pub station-edc : (bytes : List ℕ) → Unique (GivesEdc bytes)
@@ -158,3 +173,17 @@ station-read layout cylinder side image given x y p q =
 pub station-pick : (layout sector : ℕ) (first ones second twos : List ℕ)
     → Unique (λ (o : ℕ × List ℕ). GivesPick layout sector first ones second twos (o .0) (o .1))
 station-pick layout sector first ones second twos x y p q = by-values _ _ x y (p .numbered, p .placed) (q .numbered, q .placed)
+
+pub station-request : (layout cylinder side sector mark : ℕ) (contents image : List ℕ)
+    → Unique (λ (o : ℕ × List ℕ). GivesRequest layout cylinder side sector mark contents image (o .0) (o .1))
+station-request layout cylinder side sector mark contents image x y p q =
+    by-values _ _ x y (p .numbered, p .notes) (q .numbered, q .notes)
+
+-- A number, and the plan and the image at exit.
+all-three : {A B C : Type 0} {a a′ : A} {b b′ : B} {c c′ : C} → a ≡ a′ → b ≡ b′ → c ≡ c′ → _≡_ {A = A × B × C} (a, b, c) (a′, b′, c′)
+all-three p q r = rw (p, q, r)
+
+pub station-step : (before : List ℕ) (mark : ℕ) (contents image : List ℕ)
+    → Unique (λ (o : ℕ × List ℕ × List ℕ). GivesStep before mark contents image (o .0) (o .1) (o .2))
+station-step before mark contents image x y p q =
+    all-three (p .numbered ∙ sym (q .numbered)) (p .moves ∙ sym (q .moves)) (p .leaves ∙ sym (q .leaves))

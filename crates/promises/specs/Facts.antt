@@ -12,6 +12,7 @@ use Rattle.format.specs.Order.{Symbol, plain, mark, image, track}
 use Rattle.marks.specs.Marks.{string, markByte}
 use Rattle.marks.specs.declared.Mark.{Mark}
 use Rattle.marks.specs.declared.Mark.the-variants.{Index, Identifier, Data}
+use Rattle.rewrite.specs.Stores.{stores}
 use Rattle.layouts.specs.declared.Layout.{Layout}
 use Rattle.layouts.specs.Layouts.{layout0, layout1, layout2, layout3, fields, numbers}
 
@@ -46,7 +47,11 @@ abbrev standing : Layout → ℕ → Mark → List ℕ
 standing l cylinder m =
     take (length (string (l .mode) m)) (drop (place (l .mode) m (symbols l cylinder)) (image (l .mode) 0 (symbols l cylinder)))
 
--- The facts of 01, "Small facts", as far as what is built reaches.
+-- How many stores the rewrite of a sector to zeros makes whose mark is the first of an image of so many bytes.
+abbrev storesOf : Layout → (bytes : ℕ) → ℕ
+storesOf l bytes = length (stores l (replicate bytes 0) 0 Data (replicate (l .size) 0))
+
+-- The facts of 01, "Small facts".
 unfoldable pub facts : List Fact
 facts =
     -- MFM 4E after ZERO: 92 54
@@ -75,6 +80,9 @@ facts =
     ∷ record { computed = places layout0 0; expected = 158 ∷ 206 ∷ [] }
     ∷ record { computed = standing layout0 0 Identifier; expected = string Fm Identifier }
     ∷ record { computed = standing layout0 0 Data; expected = string Fm Data }
+    -- stores: 519 for N = 256 with a byte after, 518 without; 262 for layout 0
+    ∷ record { computed = storesOf layout1 525 ∷ storesOf layout1 524 ∷ []; expected = 519 ∷ 518 ∷ [] }
+    ∷ record { computed = storesOf layout0 263 ∷ storesOf layout0 262 ∷ []; expected = 262 ∷ 262 ∷ [] }
     ∷ []
 
 -- Every fact of a list holds.

@@ -8,5 +8,6 @@ pub mod Stepping
 pub mod Filling
 pub mod Answering
 pub mod Locating
+pub mod Fitting
 pub mod Passing
 pub mod Picking

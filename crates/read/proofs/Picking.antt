@@ -1,36 +1,25 @@
 -- What is known of a pick that its tests pass, and what it hands back.
 use mathlib.Core.Path.{_≡_, sym, ap, subst, _∙_}
 use mathlib.Core.Bool.{Bool, true, false}
-use mathlib.Core.List.{List, [], _∷_}
+use mathlib.Core.List.{[], _∷_}
 use Prim.Native.Nat.{ℕ, zero, suc, _*_, _≤_}
 use native.Mathlib.Omega.{arith}
 use borrow.Author.Tests.{eqb-true, ltb-false, not-false}
 use lib.Dec.{eqb, ltb}
 use Rattle.layouts.specs.Layouts.{highest, layoutOf}
-use Rattle.layouts.specs.Refusals.{Test, refusal, taken, numberTest}
+use Rattle.layouts.specs.Refusals.{refusal, taken, numberTest}
 use Rattle.layouts.specs.declared.Layout.{Layout}
-use Rattle.layouts.specs.declared.Refusal.{Refusal}
-use Rattle.layouts.specs.declared.Checked.{Checked}
-use Rattle.layouts.specs.declared.Checked.the-variants.{Passed, Refused}
+use Rattle.layouts.specs.declared.Checked.the-variants.{Passed}
 use Rattle.layouts.specs.declared.Chosen.{Chosen}
 use Rattle.layouts.specs.declared.Chosen.the-variants as chosen
 use Rattle.layouts.proofs.Layouts.{adds}
-use Rattle.layouts.proofs.Refusals.{passed-both, refusal-append-passed, refusal-append-refused, refusal-passed, taken-passed}
+use Rattle.layouts.proofs.Refusals.{passed-both, refusal-passed, taken-passed}
 use Rattle.read.specs.Answers.{answered}
 use Rattle.read.specs.Turns.{Modest}
 use Rattle.read.specs.Picks.{areaTests, pickTests, choice}
 use Rattle.read.specs.declared.Record.{Record}
 use Rattle.read.specs.declared.Choice.the-variants.{First, Second, Neither}
 use Rattle.read.proofs.Passing.{or-left, or-right, modest}
-
--- ---- a test, and those that follow it
-
-module _ (t : Test) (ts : List Test) (x : Checked) (e : x ≡ refusal (t ∷ [])) where
-  pub first-refuses : (f : Refusal) → x ≡ Refused f → x ≡ refusal (t ∷ ts)
-  first-refuses f h = h ∙ sym (refusal-append-refused (t ∷ []) ts f (sym e ∙ h))
-
-  pub first-passes : x ≡ Passed → refusal ts ≡ refusal (t ∷ ts)
-  first-passes h = sym (refusal-append-passed (t ∷ []) ts (sym e ∙ h))
 
 -- ---- the pass that is taken
 

@@ -1,6 +1,6 @@
 -- Laws of a step's tests: which refusal each way through them gives, and what is known where all pass.
 use mathlib.Core.Path.{_≡_, refl, sym, ap, _∙_}
-use mathlib.Core.Bool.{Bool, true, false, not, _&&_, _||_, and-eq-true-iff}
+use mathlib.Core.Bool.{Bool, true, false, not, _&&_, and-eq-true-iff}
 use mathlib.Core.List.{List, [], _∷_}
 use Prim.Native.Nat.{ℕ, _+_, _*_, _%_, _≤_, _<_}
 use native.Mathlib.Omega.{arith}
@@ -18,7 +18,7 @@ use Rattle.layouts.specs.declared.Checked.{Checked}
 use Rattle.layouts.specs.declared.Checked.the-variants.{Passed, Refused}
 use Rattle.layouts.specs.declared.Chosen.{Chosen}
 use Rattle.layouts.specs.declared.Chosen.the-variants as chosen
-use Rattle.layouts.proofs.Refusals.{refusal-append-passed, refusal-append-refused, refusal-passed, taken-passed, taken-refused}
+use Rattle.layouts.proofs.Refusals.{first-refuses, first-passes, refusal-append-passed, refusal-append-refused, refusal-passed, taken-passed, taken-refused}
 use Rattle.marks.specs.Marks.{markByte, markOf}
 use Rattle.marks.specs.Search.{isFound, standing, some, firstMark}
 use Rattle.marks.specs.declared.Found.{Found}
@@ -26,6 +26,7 @@ use Rattle.marks.specs.declared.Found.the-variants.{At, Nothing}
 use Rattle.marks.specs.declared.Kinds.{Kinds}
 use Rattle.marks.proofs.Searching.{some-none, first-skip, first-end, first-found}
 use Rattle.read.specs.Walk.{blockMarks, blockCells}
+use Rattle.read.proofs.Passing.{or-right}
 use Rattle.rewrite.specs.Stores.{stored, none, blockEnd, storeCount}
 use Rattle.rewrite.specs.Refusals.{holdsBlock, planned, blockTest, finishedTest, blockTests, stepTests}
 use Rattle.rewrite.specs.Outcomes.{CountsStores, Steps, next}
@@ -78,17 +79,10 @@ module _ (l : Layout) (image : List ℕ) (place : ℕ) where
       let two = and-eq-true-iff within stands .0 (one .1) in
       (eqb-true (place % 8) 0 (one .0), leb-true (place + blockCells l) (8 * length image) (two .0))
 
--- ---- one test before others
-
--- The test refuses, and none that follows is asked; or it passes, and those that follow decide.
-pub stops : (t : Test) (ts : List Test) (r : Checked) (f : Refusal) → r ≡ refusal (t ∷ []) → r ≡ Refused f → r ≡ refusal (t ∷ ts)
-stops t ts r f e g = g ∙ sym (refusal-append-refused (t ∷ []) ts f (sym e ∙ g))
-
-pub goes : (t : Test) (ts : List Test) (r : Checked) → r ≡ refusal (t ∷ []) → r ≡ Passed → refusal (t ∷ ts) ≡ refusal ts
-goes t ts r e g = refusal-append-passed (t ∷ []) ts (sym e ∙ g)
+-- ---- what a test that passes says
 
 -- The area that passes has the length that is wanted, and the mark is FB or F8.
-area-right : (wanted given : ℕ) → areaTest wanted given .applies ≡ false → given ≡ wanted
+pub area-right : (wanted given : ℕ) → areaTest wanted given .applies ≡ false → given ≡ wanted
 area-right wanted given e = eqb-true given wanted (not-false _ e)
 
 pub record Asked (mark : ℕ) : Type 0 where
@@ -123,40 +117,36 @@ module _ (l : Layout) (plan : Plan) (mark : ℕ) (contents image : List ℕ) whe
   pub image-wrong : (r : Checked) (f : Refusal) → r ≡ refusal (imageTest (length image) ∷ []) → r ≡ Refused f
       → r ≡ refusal (blockTests l plan mark contents image)
   unfolding blockTests
-  image-wrong r f e g = stops (imageTest (length image)) fromArea r f e g
+  image-wrong r f e g = first-refuses (imageTest (length image)) fromArea r e f g
 
   module _ (r : Checked) (image-said : r ≡ refusal (imageTest (length image) ∷ [])) (image-passed : r ≡ Passed) where
-    image-right : refusal (blockTests l plan mark contents image) ≡ refusal fromArea
+    image-right : refusal fromArea ≡ refusal (blockTests l plan mark contents image)
     unfolding blockTests
-    image-right = goes (imageTest (length image)) fromArea r image-said image-passed
+    image-right = first-passes (imageTest (length image)) fromArea r image-said image-passed
 
     pub area-wrong : (s : Checked) (f : Refusal) → s ≡ refusal (areaTest (l .size) (length contents) ∷ []) → s ≡ Refused f
         → s ≡ refusal (blockTests l plan mark contents image)
-    area-wrong s f e g = stops (areaTest (l .size) (length contents)) fromMark s f e g ∙ sym image-right
+    area-wrong s f e g = first-refuses (areaTest (l .size) (length contents)) fromMark s e f g ∙ image-right
 
     module _ (s : Checked) (area-said : s ≡ refusal (areaTest (l .size) (length contents) ∷ [])) (area-passed : s ≡ Passed) where
-      area-passes : refusal (blockTests l plan mark contents image) ≡ refusal fromMark
-      area-passes = image-right ∙ goes (areaTest (l .size) (length contents)) fromMark s area-said area-passed
+      area-passes : refusal fromMark ≡ refusal (blockTests l plan mark contents image)
+      area-passes = first-passes (areaTest (l .size) (length contents)) fromMark s area-said area-passed ∙ image-right
 
       pub mark-wrong : (t : Checked) (f : Refusal) → t ≡ refusal (markTest mark ∷ []) → t ≡ Refused f
           → t ≡ refusal (blockTests l plan mark contents image)
-      mark-wrong t f e g = stops (markTest mark) fromBlock t f e g ∙ sym area-passes
+      mark-wrong t f e g = first-refuses (markTest mark) fromBlock t e f g ∙ area-passes
 
   -- What is known where 1, 5 and 6 pass: 13 and 12 decide.
   pub record Handed : Type 0 where
-    pub judged : refusal (blockTests l plan mark contents image) ≡ refusal fromBlock
+    pub judged : refusal fromBlock ≡ refusal (blockTests l plan mark contents image)
     pub short : length image ≤ longestImage
     pub whole : length contents ≡ l .size
-
-  or-right : (a b : Bool) → (a || b) ≡ false → b ≡ false
-  or-right true b e = let z : _≡_ {A = ℕ} 0 1 = cc in absurd (omega arith)
-  or-right false b e = e
 
   pub handed : (r s t : Checked) → r ≡ refusal (imageTest (length image) ∷ []) → r ≡ Passed
       → s ≡ refusal (areaTest (l .size) (length contents) ∷ []) → s ≡ Passed → t ≡ refusal (markTest mark ∷ []) → t ≡ Passed → Handed
   handed r s t e p f q g u =
       record {
-        judged = area-passes r e p s f q ∙ goes (markTest mark) fromBlock t g u;
+        judged = first-passes (markTest mark) fromBlock t g u ∙ area-passes r e p s f q;
         short = ltb-false longestImage (length image) (or-right (eqb (length image) 0) _ (refusal-passed _ _ (sym e ∙ p) .0));
         whole = area-right (l .size) (length contents) (refusal-passed _ _ (sym f ∙ q) .0);
       }
@@ -165,7 +155,7 @@ module _ (l : Layout) (plan : Plan) (mark : ℕ) (contents image : List ℕ) whe
     pub no-block : (b : Bool) → b ≡ holdsBlock l image (plan .place) → b ≡ false
         → Refused NoBlock ≡ refusal (blockTests l plan mark contents image)
     unfolding refusal
-    no-block b e f = sym (h .judged ∙ rw (← e, f))
+    no-block b e f = rw (← e, f) at (h .judged)
 
     module _ (b : Bool) (block-said : b ≡ holdsBlock l image (plan .place)) (holds : b ≡ true)
         (count : ℕ) (counts : count ≡ storeCount l (plan .place) (length image)) where
@@ -174,11 +164,11 @@ module _ (l : Layout) (plan : Plan) (mark : ℕ) (contents image : List ℕ) whe
 
       pub finished : count ≤ plan .made → Refused Finished ≡ refusal (blockTests l plan mark contents image)
       unfolding refusal
-      finished u = sym (h .judged ∙ rw (← block-said, holds, ← counted, le-leb count (plan .made) u))
+      finished u = rw (← block-said, holds, ← counted, le-leb count (plan .made) u) at (h .judged)
 
       pub unfinished : plan .made < count → Passed ≡ refusal (blockTests l plan mark contents image)
       unfolding refusal
-      unfinished u = sym (h .judged ∙ rw (← block-said, holds, ← counted, lt-leb count (plan .made) u))
+      unfinished u = rw (← block-said, holds, ← counted, lt-leb count (plan .made) u) at (h .judged)
 
 -- ---- all of them
 

@@ -4,3 +4,4 @@ pub mod Fixed
 pub mod Counted
 pub mod Worked
 pub mod Judged
+pub mod Noting

@@ -77,13 +77,17 @@ unreadableTest located = record { applies = not (isAt located); gives = Unreadab
 abbrev pub boundaryTest : Located → Test
 boundaryTest located = record { applies = not (eqb (cellOf located % 8) 0); gives = OffBoundary }
 
--- 2, 3, 4, 1, 9, and then 5, 6, 7, 10, 11.
+-- 5, 6, 7: the sector's new bytes and their mark.
+abbrev pub contentsTests : Layout → (cylinder mark : ℕ) → List ℕ → List Test
+contentsTests l cylinder mark contents =
+    areaTest (l .size) (length contents) ∷ markTest mark ∷ controlTest cylinder mark (getD contents 0 0) ∷ []
+
+-- 10, 11: the block's place.
+abbrev pub placeTests : Located → List Test
+placeTests located = unreadableTest located ∷ boundaryTest located ∷ []
+
+-- 2, 3, 4, 1, 9, and then 5, 6, 7, 10, 11. (The image is not walked before the first eight have passed.)
 unfoldable pub requestTests : (layout cylinder side sector mark : ℕ) → (contents image : List ℕ) → List Test
 requestTests layout cylinder side sector mark contents image =
     locateTests layout cylinder side (length image) sector
-    ++ (areaTest (layoutOf layout .size) (length contents)
-    ∷ markTest mark
-    ∷ controlTest cylinder mark (getD contents 0 0)
-    ∷ unreadableTest (found layout cylinder side sector image)
-    ∷ boundaryTest (found layout cylinder side sector image)
-    ∷ [])
+    ++ (contentsTests (layoutOf layout) cylinder mark contents ++ placeTests (found layout cylinder side sector image))

@@ -2,8 +2,9 @@
 // notes the block's place; each step is handed the mark and the bytes again, and trusts nothing of its plan.
 use layouts::Chosen;
 use layouts::Refusal;
-ghost use Rattle.rewrite.specs.Outcomes.{CountsStores, Steps};
+ghost use Rattle.rewrite.specs.Outcomes.{CountsStores, Steps, Requests};
 
+mod requests;
 mod tests;
 mod values;
 
@@ -37,6 +38,28 @@ pub enum Stepped {
     Made(Plan),
     // nothing was changed, and the plan stays as it was
     Refused(Refusal),
+}
+
+// Asks for the rewrite of a sector: a plan that notes where its block is. `mark` is FB or F8, and `contents` the sector's new bytes. The image
+// is walked once, and only where the call itself is right.
+pub fn request(
+    layout: u32,
+    cylinder: u32,
+    side: u32,
+    sector: u32,
+    mark: u32,
+    contents: &[u8],
+    image: &[u8],
+) -> Requested
+    ensures { λ r. ⌜ Requests layout cylinder side sector mark (now (contents .entry)) (now (image .entry)) r ⌝ }
+{
+    match requests::tested(layout, cylinder, side, sector, mark, contents, image.len()) {
+        Chosen::Refused(refusal) => Requested::Refused(refusal),
+        Chosen::Taken(_) => {
+            let located = read::locate(layout, cylinder, side, sector, image);
+            requests::noted(layout, located)
+        }
+    }
 }
 
 // How many stores a rewrite by the plan makes in an image of `bytes` bytes; none above the highest layout.

@@ -4,7 +4,7 @@ use mathlib.Core.List.{List, [], _∷_, map}
 use mathlib.Core.Path.{_≡_}
 use Prim.Native.Nat.{ℕ, _+_, _-_, _*_}
 use lib.Dec.{leb}
-use lib.ListN.{length, getD}
+use lib.ListN.{length, getD, replicate}
 use Rattle.cells.specs.Cells.{cell, dataByte}
 use Rattle.cells.specs.Coding.{high, low}
 use Rattle.cells.specs.declared.Mode.{Mode}
@@ -21,6 +21,12 @@ use Rattle.read.specs.Outcomes.{readAnswer, readArea}
 use Rattle.read.specs.Picks.{pickedOf}
 use Rattle.read.specs.Turns.{blank}
 use Rattle.read.specs.declared.Record.{Record}
+use Rattle.rewrite.specs.Outcomes.{storesInAll, stepAnswer, stepImage, steppedNumber, requestAnswer, requestedNumber}
+use Rattle.rewrite.specs.declared.Plan.{Plan}
+use Rattle.rewrite.specs.declared.Stepped.{Stepped}
+use Rattle.rewrite.specs.declared.Stepped.the-variants as step
+use Rattle.rewrite.specs.declared.Requested.{Requested}
+use Rattle.rewrite.specs.declared.Requested.the-variants as request
 use Rattle.station.specs.Picks.{numberedRecords, pickNumber, partOf, partList}
 
 -- `station_edc` answers the EDC of the bytes.
@@ -71,3 +77,34 @@ pub record GivesPick (layout sector : ℕ) (first ones second twos : List ℕ) (
   pub numbered : number ≡ pickNumber (pickedOf layout sector first (numberedRecords ones) second (numberedRecords twos))
   pub placed :
       taken ≡ partList (partOf (layoutOf layout) sector (pickedOf layout sector first (numberedRecords ones) second (numberedRecords twos)))
+
+-- A plan in four numbers: its layout, the cell at which the block's mark begins, the stores made, and the stores in all in an image of so many
+-- bytes.
+abbrev pub planNumbers : Plan → (bytes : ℕ) → List ℕ
+planNumbers plan bytes = plan .layout ∷ plan .place ∷ plan .made ∷ storesInAll plan bytes ∷ []
+
+-- The plan that four numbers say. The fourth is not looked at.
+abbrev pub planOf : List ℕ → Plan
+planOf numbers = record { layout = getD numbers 0 0; place = getD numbers 1 0; made = getD numbers 2 0 }
+
+-- What a request's answer leaves in the plan: its numbers, or zeros.
+abbrev pub noted : Requested → (bytes : ℕ) → List ℕ
+noted (request.Planned plan) bytes = planNumbers plan bytes
+noted (request.Refused f) bytes = replicate 4 0
+
+-- What a step's answer leaves in the plan: it is moved on, or as it was.
+abbrev pub moved : Stepped → (before : List ℕ) → (bytes : ℕ) → List ℕ
+moved (step.Made plan) before bytes = planNumbers plan bytes
+moved (step.Refused f) before bytes = before
+
+-- `station_request` gives 0 and the plan's numbers; or the number of the first refusal that applies, and zeros.
+pub record GivesRequest (layout cylinder side sector mark : ℕ) (contents image : List ℕ) (number : ℕ) (plan : List ℕ) : Type 0 where
+  pub numbered : number ≡ requestedNumber (requestAnswer layout cylinder side sector mark contents image)
+  pub notes : plan ≡ noted (requestAnswer layout cylinder side sector mark contents image) (length image)
+
+-- `station_step` gives 0, the plan moved on and the image with one store made; or the number of the first refusal that applies, with plan and
+-- image as they were.
+pub record GivesStep (before : List ℕ) (mark : ℕ) (contents image : List ℕ) (number : ℕ) (plan after : List ℕ) : Type 0 where
+  pub numbered : number ≡ steppedNumber (stepAnswer (planOf before) mark contents image)
+  pub moves : plan ≡ moved (stepAnswer (planOf before) mark contents image) before (length image)
+  pub leaves : after ≡ stepImage (planOf before) mark contents image

@@ -8,9 +8,10 @@ ghost use Prim.Native.Nat.{_+_, _*_, _<_};
 ghost use lib.ListN.{length};
 ghost use Rattle.cells.specs.Coding.{high, low};
 ghost use Rattle.cells.specs.declared.Mode.the-variants.{Fm, Mfm};
-ghost use Rattle.station.specs.Outcomes.{GivesEdc, GivesCoded, GivesDataByte, GivesFormat, GivesRead, GivesPick, verdictNumber, answerAt, answerList};
+ghost use Rattle.station.specs.Outcomes.{GivesEdc, GivesCoded, GivesDataByte, GivesFormat, GivesRead, GivesPick, GivesRequest, GivesStep, verdictNumber, answerAt, answerList};
 
 mod pick;
+mod rewriting;
 
 // The EDC of the bytes, with the register all ones at the start.
 #[no_mangle]
@@ -155,4 +156,39 @@ pub extern "C" fn station_pick(
     let picked = read::picked(layout, sector, first, one, second, two);
     pick::list_part(pick::part_of(layout, sector, picked), taken);
     pick::pick_number(picked)
+}
+
+// Asks for the rewrite of a sector: 0, and `plan` gets the layout, the cell at which the block's mark begins, 0 for the stores made, and the
+// stores in all; or the number of the refusal, and zeros in `plan`. `mark` is FB or F8, and `contents` the sector's new bytes.
+#[no_mangle]
+pub extern "C" fn station_request(
+    layout: u32,
+    cylinder: u32,
+    side: u32,
+    sector: u32,
+    mark: u32,
+    contents: &[u8],
+    image: &[u8],
+    plan: &mut [u32; 4],
+) -> u8
+    ensures { λ r. ⌜ GivesRequest layout cylinder side sector mark (now (contents .entry)) (now (image .entry)) r (now (plan .exit)) ⌝ }
+{
+    let answer = rewrite::request(layout, cylinder, side, sector, mark, contents, image);
+    rewriting::list_request(answer, image.len(), plan)
+}
+
+// Makes the store that is next by the plan: 0, and `plan` is moved on; or the number of the refusal, and plan and image are as they were. The
+// first three numbers of the plan are taken as they are, the fourth is not looked at.
+#[no_mangle]
+pub extern "C" fn station_step(
+    plan: &mut [u32; 4],
+    mark: u32,
+    contents: &[u8],
+    image: &mut [u8],
+) -> u8
+    ensures { λ r. ⌜ GivesStep (now (plan .entry)) mark (now (contents .entry)) (now (image .entry)) r (now (plan .exit)) (now (image .exit)) ⌝ }
+{
+    let before = rewriting::plan_of(plan);
+    let answer = rewrite::step(before, mark, contents, image);
+    rewriting::list_step(answer, image.len(), plan)
 }

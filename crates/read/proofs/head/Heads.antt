@@ -71,8 +71,9 @@ module _ {M : Type 1} (𝓤 : URA M) (H : Heap 𝓤) (A : Atoms 𝓤) (W : Given
   pub opened : (d : Head) → ent 𝓤 (sem 𝓤 H A (Held κ d)) (sep 𝓤 (sem 𝓤 H A (Both κ (d .image) (d .cell))) (sem 𝓤 H A (Held κ d)))
   opened d =
       qed W (‵ (Held κ d) ∷ []) ∵
-      use1 W (‵ (Held κ d) ⊛ ‵ (Held κ d)) (LL.copy (Form (κ, tt)) (T′.the-copy (namedLft 1 0 tt (κ, tt))) 𝓤 H A W .twice d (T′.lowered d ∷ [])) $
-      split ! $ use1 W (given (T′.lowered d ∷ [] ≡ T′.lowered d ∷ []) (‵ (all-own (Form (κ, tt) .parts) (Rules (κ, tt)) (d .image, (d .cell, tt)))))
+      use1 W (‵ (Held κ d) ⊛ ‵ (Held κ d))
+      (LL.copy (Form (κ, tt)) (T′.the-copy (namedLft 1 0 tt (κ, tt))) 𝓤 H A W .twice d (T′.lowered d ∷ [])) $ split ! $
+      use1 W (given (T′.lowered d ∷ [] ≡ T′.lowered d ∷ []) (‵ (all-own (Form (κ, tt) .parts) (Rules (κ, tt)) (d .image, (d .cell, tt)))))
       (own-open 𝓤 H A W (Form (κ, tt)) (Rules (κ, tt)) (d .image, (d .cell, tt)) (T′.lowered d)) $ learn ! (λ _. frame ! $ done !)
 
   -- A lent image is Copy: with a cell it is what a head is made of, and it is kept.
@@ -90,7 +91,8 @@ module _ {M : Type 1} (𝓤 : URA M) (H : Heap 𝓤) (A : Atoms 𝓤) (mem : Mem
 
 module _ {M : Type 1} (𝓤 : URA M) (H : Heap 𝓤) (A : Atoms 𝓤) (W : Given 𝓤 H A) (mem : Memory → SProp 𝓤) (run : Routine → Fun 𝓤)
     (κ : Lft) (q : Share) (s : RefT (List ℕ)) (n : ℕ) where
-  -- The call of `head_at`: what it is passed, what it asks, and what is known of its result.
+  -- The call of `head_at`: what it is passed, what it asks, and what is known of its result. It has no `&mut`, so what is said of last
+  -- values is dropped.
   abbrev pub to-made : HeadAt 𝓤 H A mem run .Ghost
   to-made = (((κ, tt), (q, tt), tt, (s, (n, tt)), bothVals s n), tt)
 

@@ -1,7 +1,7 @@
 -- `area_tests` meets its contract: each test follows those that passed.
 use mathlib.Core.Path.{_∙_}
+use Rattle.layouts.proofs.Refusals.{first-refuses, first-passes}
 use Rattle.read.specs.Picks.{areaTests}
-use Rattle.read.proofs.Picking.{first-refuses, first-passes}
 use borrow.Author.Needs.{needs}
 use Rattle.read.proofs.picks.area_tests.Statement.{statement}
 use Rattle.read.proofs.picks.area_tests.Tie as tie
