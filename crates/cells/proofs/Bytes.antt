@@ -1,16 +1,34 @@
--- Data bytes one behind the other: how a loop over them goes on.
-use mathlib.Core.Path.{_≡_, refl, ap}
-use mathlib.Core.List.{[], _∷_}
-use Prim.Native.Nat.{ℕ, zero, suc, _+_, _-_, _<_, _≤_}
+-- Data bytes one behind the other: how a loop over them goes on, and what they are past the image's end.
+use mathlib.Core.Path.{_≡_, refl, sym, ap, ap₂, _∙_}
+use mathlib.Core.List.{List, [], _∷_, _++_}
+use Prim.Native.Nat.{ℕ, zero, suc, _+_, _-_, _*_, _/_, _%_, _<_, _≤_}
+use native.Mathlib.Nat.{zero-add, suc-add, zero-div}
+use native.Mathlib.Numerals.{add-one}
 use native.Mathlib.Omega.{arith}
-use lib.ListN.{length}
-use Rattle.cells.specs.Cells.{dataByte, dataBytes}
+use lib.ListN.{length, set, replicate, List·getD-eq-default}
+use lib.Seq.{sets}
+use Rattle.cells.proofs.Stores.{sets-whole}
+use Rattle.cells.specs.Cells.{cell, dataByte, dataBytes}
+
+-- A place is that of its byte and the cells into it.
+pub whole : (place : ℕ) → 8 * (place / 8) + place % 8 ≡ place
+whole place = omega arith
 
 module _ (c : ℕ → ℕ) where
   pub length-data : (p k : ℕ) → length (dataBytes c p k) ≡ k
   unfolding dataBytes
   length-data p zero = refl
   length-data p (suc k) = ap suc (length-data (p + 16) k)
+
+  -- n bytes, and m behind them
+  pub data-append : (p n m : ℕ) → dataBytes c p (n + m) ≡ dataBytes c p n ++ dataBytes c (p + 16 * n) m
+  unfolding dataBytes
+  data-append p zero m =
+      let e : p + 16 * 0 ≡ p = omega arith in
+      rw (zero-add m, e)
+  data-append p (suc n) m =
+      let e : p + 16 * suc n ≡ p + 16 + 16 * n = omega arith in
+      rw (suc-add n m, e, data-append (p + 16) n m)
 
   -- what is left of n bytes at byte i, whose first cell is q
   pub data-step : (q i n : ℕ) → i < n → dataBytes c q (n - i) ≡ dataByte c q ∷ dataBytes c (q + 16) (n - (i + 1))
@@ -24,3 +42,45 @@ module _ (c : ℕ → ℕ) where
   data-end q i n h =
       let e : n - i ≡ 0 = omega arith in
       rw e
+
+  -- byte i is stored as b; q is its first cell, and q′ that of the next
+  pub fill-turn : (q q′ i n b : ℕ) (bytes : List ℕ) → i < n → b ≡ dataByte c q → q′ ≡ q + 16
+      → sets bytes i (dataBytes c q (n - i)) ≡ sets (set bytes i b) (i + 1) (dataBytes c q′ (n - (i + 1)))
+  fill-turn q q′ i n b bytes h e f = rw (data-step q i n h, ← e, f, add-one i)
+
+  -- an area in which nothing is left to store holds them all
+  pub fill-whole : (place q i n : ℕ) (bytes₀ bytes : List ℕ) → n ≡ length bytes₀ → n ≤ i
+      → sets bytes₀ 0 (dataBytes c place n) ≡ sets bytes i (dataBytes c q (n - i)) → bytes ≡ dataBytes c place n
+  fill-whole place q i n bytes₀ bytes m h e =
+      sym (sym (sets-whole bytes₀ (dataBytes c place n) (length-data place n ∙ m)) ∙ e ∙ rw (data-end q i n h))
+
+-- ---- past the end
+
+cell-past : (s : List ℕ) (i : ℕ) → 8 * length s ≤ i → cell s i ≡ 0
+unfolding cell
+cell-past s i h =
+    let e : length s ≤ i / 8 = omega arith in
+    rw (List·getD-eq-default s 0 e, zero-div)
+
+byte-past : (s : List ℕ) (q : ℕ) → 8 * length s ≤ q → dataByte (cell s) q ≡ 0
+unfolding dataByte
+byte-past s q h =
+    rw (
+      cell-past s (q + 1) (omega arith),
+      cell-past s (q + 3) (omega arith),
+      cell-past s (q + 5) (omega arith),
+      cell-past s (q + 7) (omega arith),
+      cell-past s (q + 9) (omega arith),
+      cell-past s (q + 11) (omega arith),
+      cell-past s (q + 13) (omega arith),
+      cell-past s (q + 15) (omega arith),
+    )
+
+zeros-past : (s : List ℕ) (q k : ℕ) → 8 * length s ≤ q → dataBytes (cell s) q k ≡ replicate k 0
+unfolding dataBytes
+zeros-past s q zero h = refl
+zeros-past s q (suc k) h = ap₂ _∷_ (byte-past s q h) (zeros-past s (q + 16) k (omega arith))
+
+-- Past the end it is all one from where the bytes are taken.
+pub stays : (s : List ℕ) (q q′ k : ℕ) → 8 * length s ≤ q → 8 * length s ≤ q′ → dataBytes (cell s) q k ≡ dataBytes (cell s) q′ k
+stays s q q′ k h h′ = zeros-past s q k h ∙ sym (zeros-past s q′ k h′)

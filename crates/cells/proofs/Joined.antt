@@ -46,7 +46,8 @@ cells-add s (suc n) m i =
     let e : i + suc n ≡ i + 1 + n = omega arith in
     rw (suc-add n m, e, cells-add s n m (i + 1), pow-add 2 n m, ← mul-assoc, ← add-assoc, ← add-mul)
 
-window : (a b k : ℕ) → a < 256 → b < 256 → k < 8 → (a * 256 + b) / 2 ^ (8 - k) % 256 ≡ a % 2 ^ (8 - k) * 2 ^ k + b / 2 ^ (8 - k) % 2 ^ k
+-- The eight cells that begin k cells into two bytes: the upper ones are of the first byte, the lower ones of the second.
+pub window : (a b k : ℕ) → a < 256 → b < 256 → k < 8 → (a * 256 + b) / 2 ^ (8 - k) % 256 ≡ a % 2 ^ (8 - k) * 2 ^ k + b / 2 ^ (8 - k) % 2 ^ k
 window a b zero ha hb h = omega arith
 window a b (suc zero) ha hb h = omega arith
 window a b (suc (suc zero)) ha hb h = omega arith
@@ -107,17 +108,39 @@ pub octet-read : (s : List ℕ) (i a b r : ℕ) → a < 256 → b < 256 → a �
     → r ≡ (a * 256 + b) / 2 ^ (8 - i % 8) % 256 → r ≡ octet (cell s) i
 octet-read s i a b r ha hb ea eb er = er ∙ rw (ea, eb) (joined s i (rw (← ea) ha) (rw (← eb) hb))
 
+-- The data byte that begins k cells into the byte `at`: a, b and d are the three image bytes, x and y the windows.
+pub octets-read : (s : List ℕ) (at k a b d x y : ℕ) → k < 8 → a < 256 → b < 256 → d < 256
+    → a ≡ getD s at 0 → b ≡ getD s (at + 1) 0 → d ≡ getD s (at + 2) 0
+    → x ≡ (a * 256 + b) / 2 ^ (8 - k) % 256 → y ≡ (b * 256 + d) / 2 ^ (8 - k) % 256 → nibbleOf x * 16 + nibbleOf y ≡ dataByte (cell s) (8 * at + k)
+octets-read s at k a b d x y hk ha hb hd ea eb ed ex ey =
+    let i = 8 * at + k in
+    let p : i / 8 ≡ at = omega arith in
+    let q : (i + 8) / 8 ≡ at + 1 = omega arith in
+    let q2 : (i + 8) / 8 + 1 ≡ at + 2 = omega arith in
+    let m : i % 8 ≡ k = omega arith in
+    let n : (i + 8) % 8 ≡ k = omega arith in
+    let first = octet-read s i a b x ha hb (rw p ea) (rw p eb) (rw m ex) in
+    let second = octet-read s (i + 8) b d y hb hd (rw q eb) (rw q2 ed) (rw n ey) in
+    rw (first, second) (data-octets (cell s) (cell-lt s) i)
+
 -- The data cells of sixteen cells, as the code takes them out, are those of the two octets.
 abbrev pub dataOf : ℕ → ℕ
 dataOf w = byteOf (w / 16384 % 2) (w / 4096 % 2) (w / 1024 % 2) (w / 256 % 2) (w / 64 % 2) (w / 16 % 2) (w / 4 % 2) (w % 2)
 
-pub data-halves : (w : ℕ) → dataOf w ≡ nibbleOf (w / 256) * 16 + nibbleOf (w % 256)
-data-halves w =
+-- The data cells of either half.
+pub upper-nibble : (w : ℕ) → nibbleOf (w / 256) ≡ w / 16384 % 2 * 8 + w / 4096 % 2 * 4 + w / 1024 % 2 * 2 + w / 256 % 2
+upper-nibble w = rw (shr-shr w 8 6, shr-shr w 8 4, shr-shr w 8 2)
+
+pub lower-nibble : (w : ℕ) → nibbleOf (w % 256) ≡ w / 64 % 2 * 8 + w / 16 % 2 * 4 + w / 4 % 2 * 2 + w % 2
+lower-nibble w =
     let e6 : w % 256 / 64 % 2 ≡ w / 64 % 2 = omega arith in
     let e4 : w % 256 / 16 % 2 ≡ w / 16 % 2 = omega arith in
     let e2 : w % 256 / 4 % 2 ≡ w / 4 % 2 = omega arith in
     let e0 : w % 256 % 2 ≡ w % 2 = omega arith in
-    rw (shr-shr w 8 6, shr-shr w 8 4, shr-shr w 8 2, e6, e4, e2, e0) (omega arith)
+    rw (e6, e4, e2, e0)
+
+data-halves : (w : ℕ) → dataOf w ≡ nibbleOf (w / 256) * 16 + nibbleOf (w % 256)
+data-halves w = rw (upper-nibble w, lower-nibble w) (omega arith)
 
 -- The window over three bytes is the two windows over two of them.
 wide-window : (a b d k : ℕ) → a < 256 → b < 256 → d < 256 → k < 8
@@ -133,18 +156,13 @@ wide-window a b d (suc (suc (suc (suc (suc (suc zero)))))) ha hb hd h = omega ar
 wide-window a b d (suc (suc (suc (suc (suc (suc (suc zero))))))) ha hb hd h = omega arith
 wide-window a b d (suc (suc (suc (suc (suc (suc (suc (suc k)))))))) ha hb hd h = absurd (omega arith)
 
--- The data byte, as the code reads it: a, b and d are the three image bytes, w the sixteen cells.
-pub data-read : (s : List ℕ) (i a b d w : ℕ) → a < 256 → b < 256 → d < 256
-    → a ≡ getD s (i / 8) 0 → b ≡ getD s (i / 8 + 1) 0 → d ≡ getD s (i / 8 + 2) 0
-    → w ≡ (a * 65536 + b * 256 + d) / 2 ^ (8 - i % 8) % 65536 → dataOf w ≡ dataByte (cell s) i
-data-read s i a b d w ha hb hd ea eb ed ew =
-    let q : (i + 8) / 8 ≡ i / 8 + 1 = omega arith in
-    let q2 : (i + 8) / 8 + 1 ≡ i / 8 + 2 = omega arith in
-    let k : (i + 8) % 8 ≡ i % 8 = omega arith in
-    let each = wide-window a b d (i % 8) ha hb hd (omega arith) in
-    let x = octet-read s i a b (w / 256) ha hb ea eb (rw ew (each .0)) in
-    let y = octet-read s (i + 8) b d (w % 256) hb hd (rw q eb) (rw q2 ed) (rw (ew, k) (each .1)) in
-    data-halves w ∙ rw (x, y) (data-octets (cell s) (cell-lt s) i)
+-- The data byte that begins k cells into the byte `at`, as the code reads it: a, b and d are the three image bytes, w the sixteen cells.
+pub data-read : (s : List ℕ) (at k a b d w : ℕ) → k < 8 → a < 256 → b < 256 → d < 256
+    → a ≡ getD s at 0 → b ≡ getD s (at + 1) 0 → d ≡ getD s (at + 2) 0
+    → w ≡ (a * 65536 + b * 256 + d) / 2 ^ (8 - k) % 65536 → dataOf w ≡ dataByte (cell s) (8 * at + k)
+data-read s at k a b d w hk ha hb hd ea eb ed ew =
+    let each = wide-window a b d k ha hb hd hk in
+    data-halves w ∙ octets-read s at k a b d (w / 256) (w % 256) hk ha hb hd ea eb ed (rw ew (each .0)) (rw ew (each .1))
 
 -- On a byte boundary the octet is the image's byte.
 pub aligned : (s : List ℕ) (k : ℕ) → getD s k 0 < 256 → getD s (k + 1) 0 < 256 → octet (cell s) (8 * k) ≡ getD s k 0

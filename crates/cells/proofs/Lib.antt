@@ -4,3 +4,4 @@ pub mod Joined
 pub mod Coding
 pub mod Stores
 pub mod Bytes
+pub mod Words

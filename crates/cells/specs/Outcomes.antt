@@ -2,7 +2,7 @@
 use Prim.Native.Nat.{ℕ}
 use mathlib.Core.Path.{_≡_}
 use mathlib.Core.List.{List}
-use Rattle.cells.specs.Cells.{cell, octet, dataByte}
+use Rattle.cells.specs.Cells.{cell, octet, dataByte, dataBytes}
 use Rattle.cells.specs.Coding.{codedByte}
 use Rattle.cells.specs.declared.Mode.{Mode}
 use Rattle.cells.specs.declared.Pair.{Pair}
@@ -14,6 +14,10 @@ IsOctet image place answer = answer ≡ octet (cell image) place
 -- `data_byte` answers the data byte of the sixteen cells from a place on.
 abbrev pub IsDataByte : List ℕ → ℕ → ℕ → Type 0
 IsDataByte image place answer = answer ≡ dataByte (cell image) place
+
+-- `data_bytes` leaves the area filled with the data bytes from a place on, as many as it has room for.
+abbrev pub AreDataBytes : List ℕ → ℕ → ℕ → List ℕ → Type 0
+AreDataBytes image place room exit = exit ≡ dataBytes (cell image) place room
 
 -- `coded` answers the two image bytes of a byte after the bit before it.
 abbrev pub IsCoded : Mode → ℕ → ℕ → Pair → Type 0

@@ -2,7 +2,7 @@
 use mathlib.Core.List.{List}
 use mathlib.Core.Path.{_≡_, sym, ap₂, _∙_}
 use Prim.Native.Nat.{ℕ}
-use Rattle.cells.specs.Outcomes.{IsOctet, IsDataByte, IsCoded}
+use Rattle.cells.specs.Outcomes.{IsOctet, IsDataByte, AreDataBytes, IsCoded}
 use Rattle.cells.specs.declared.Mode.{Mode}
 use Rattle.edc.specs.Outcomes.{IsByteEntered, IsBytesEntered, IsEdc}
 use Rattle.format.specs.Outcomes.{Formats, IsFormattedNumber}
@@ -36,6 +36,9 @@ octet image place = by-value _
 
 pub data-byte : (image : List ℕ) (place : ℕ) → Unique (IsDataByte image place)
 data-byte image place = by-value _
+
+pub data-bytes : (image : List ℕ) (place room : ℕ) → Unique (AreDataBytes image place room)
+data-bytes image place room = by-value _
 
 pub coded : (mode : Mode) (before byte : ℕ) → Unique (IsCoded mode before byte)
 coded mode before byte = by-value _

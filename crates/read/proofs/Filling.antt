@@ -1,8 +1,8 @@
--- How the loops over a slot go on: what is left to store, and to enter into the register, from byte i on ends where the whole does.
+-- How a slot is filled: with zeros, by a loop, and with data bytes, which then enter the register with the two EDC bytes behind them.
 use mathlib.Core.Path.{_≡_, sym, ap, _∙_}
 use mathlib.Core.Bool.{true, false}
 use mathlib.Core.List.{List, _++_}
-use Prim.Native.Nat.{ℕ, suc, _+_, _-_, _<_, _≤_}
+use Prim.Native.Nat.{ℕ, suc, _+_, _-_, _*_, _<_, _≤_}
 use native.Mathlib.Numerals.{add-one}
 use native.Mathlib.Omega.{arith}
 use borrow.Author.Tests.{eq-eqb, ne-eqb}
@@ -10,9 +10,10 @@ use lib.ListN.{length, set, replicate, length-replicate}
 use lib.Seq.{sets}
 use Rattle.cells.specs.Cells.{dataByte, dataBytes}
 use Rattle.cells.specs.declared.Mode.{Mode}
-use Rattle.cells.proofs.Bytes.{length-data, data-step, data-end}
+use Rattle.cells.proofs.Bytes.{length-data, data-append}
 use Rattle.cells.proofs.Stores.{sets-whole}
 use Rattle.edc.specs.Register.{byteEntered, bytesEntered, edcOf}
+use Rattle.edc.proofs.Laws.{bytes-append}
 use Rattle.marks.specs.Marks.{covered, registerAfter}
 use Rattle.marks.specs.declared.Mark.{Mark}
 use Rattle.marks.proofs.Spelling.{register-all}
@@ -31,31 +32,21 @@ zero-end area n i h = let e : n - i ≡ 0 = omega arith in rw e
 pub zero-whole : (area : List ℕ) → sets area 0 (replicate (length area) 0) ≡ replicate (length area) 0
 zero-whole area = sets-whole area (replicate (length area) 0) (length-replicate (length area) 0)
 
--- ---- data bytes; q is the first cell of byte i
+-- ---- data bytes
 
-module _ (c : ℕ → ℕ) (q i n b : ℕ) (h : i < n) (e : b ≡ dataByte c q) where
-  pub fill-turn : (slot : List ℕ) → sets slot i (dataBytes c q (n - i)) ≡ sets (set slot i b) (i + 1) (dataBytes c (q + 16) (n - (i + 1)))
-  fill-turn slot = rw (data-step c q i n h, ← e, add-one i)
-
-  pub enter-turn : (r r′ : ℕ) → r′ ≡ byteEntered r b → bytesEntered r (dataBytes c q (n - i)) ≡ bytesEntered r′ (dataBytes c (q + 16) (n - (i + 1)))
-  unfolding bytesEntered
-  enter-turn r r′ f = rw (data-step c q i n h, ← e, f)
-
-pub fill-whole : (c : ℕ → ℕ) (place q i n : ℕ) (slot₀ slot : List ℕ) → n ≡ length slot₀ → n ≤ i
-    → sets slot₀ 0 (dataBytes c place n) ≡ sets slot i (dataBytes c q (n - i)) → slot ≡ dataBytes c place n
-fill-whole c place q i n slot₀ slot m h e =
-    sym (sym (sets-whole slot₀ (dataBytes c place n) (length-data c place n ∙ m)) ∙ e ∙ rw (data-end c q i n h))
-
--- Behind the last of n bytes the two EDC bytes enter.
-pub enter-end : (mode : Mode) (mark : Mark) (c : ℕ → ℕ) (place q i n r₀ r x y high all : ℕ) → i ≡ n → r₀ ≡ registerAfter mode mark
-    → bytesEntered r₀ (dataBytes c place (n + 2)) ≡ bytesEntered r (dataBytes c q (n + 2 - i))
-    → x ≡ dataByte c q → high ≡ byteEntered r x → y ≡ dataByte c (q + 16) → all ≡ byteEntered high y
+-- Behind the n bytes of a slot the two EDC bytes enter; `end` is the cell where they stand.
+pub enter-end : (mode : Mode) (mark : Mark) (c : ℕ → ℕ) (place n end : ℕ) (slot : List ℕ) (r₀ r x y high all : ℕ) → slot ≡ dataBytes c place n
+    → end ≡ place + 16 * length slot → r₀ ≡ registerAfter mode mark → r ≡ bytesEntered r₀ slot
+    → x ≡ dataByte c end → high ≡ byteEntered r x → y ≡ dataByte c (end + 16) → all ≡ byteEntered high y
     → all ≡ edcOf (covered mode mark ++ dataBytes c place (n + 2))
 unfolding bytesEntered dataBytes
-enter-end mode mark c place q i n r₀ r x y high all e a inv xe he ye ae =
-    let two : n + 2 - i ≡ 2 = omega arith in
-    let left : bytesEntered r (dataBytes c q (n + 2 - i)) ≡ all = rw (two, ae, he, xe, ye) in
-    sym (sym (register-all mode mark (dataBytes c place (n + 2))) ∙ rw (← a) (inv ∙ left))
+enter-end mode mark c place n end slot r₀ r x y high all s e a re xe he ye ae =
+    let at : place + 16 * n ≡ end = omega (arith, rw (s, length-data c place n) at e) in
+    let two : bytesEntered r (dataBytes c end 2) ≡ all = rw (ae, he, xe, ye) in
+    sym (
+    sym (register-all mode mark (dataBytes c place (n + 2)))
+    ∙ rw (data-append c place n 2, at, bytes-append (registerAfter mode mark) (dataBytes c place n) (dataBytes c end 2), ← a, ← s, ← re) two
+    )
 
 -- ---- whether the EDC is right
 

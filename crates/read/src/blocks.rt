@@ -38,18 +38,11 @@ fn fill(mode: Mode, mark: Mark, image: &[u8], place: usize, slot: &mut [u8]) -> 
     requires { ⌜ place + 16 * length (now slot) ≤ 4294967296 ⌝ }
     ensures { λ r. ⌜ (now (slot .exit) ≡ dataBytes (cell (now (image .entry))) place (length (now (slot .entry)))) × (r ≡ edcOf (covered mode mark ++ dataBytes (cell (now (image .entry))) place (length (now (slot .entry)) + 2))) ⌝ }
 {
-    let mut register = marks::register_after(mode, mark);
-    let mut at = place;
-    let mut i = 0;
-    while i < slot.len() {
-        let byte = cells::data_byte(image, at);
-        slot[i] = byte;
-        register = edc::byte_entered(register, byte);
-        at += 16;
-        i += 1;
-    }
-    let high = edc::byte_entered(register, cells::data_byte(image, at));
-    edc::byte_entered(high, cells::data_byte(image, at + 16))
+    cells::data_bytes(image, place, slot);
+    let end = place + 16 * slot.len();
+    let register = edc::bytes_entered(marks::register_after(mode, mark), slot);
+    let high = edc::byte_entered(register, cells::data_byte(image, end));
+    edc::byte_entered(high, cells::data_byte(image, end + 16))
 }
 
 // What the block at `place` answers after a data or a control mark: `good` if its EDC is right. Else its bytes are taken back.

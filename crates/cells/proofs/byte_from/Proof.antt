@@ -1,0 +1,89 @@
+-- `byte_from` meets its contract: the three bytes joined have the sixteen cells, and where the test fails the third is 0.
+use denote.Ref.{now}
+use mathlib.Core.Path.{refl, sym, _∙_}
+use Prim.Native.Nat.{_+_}
+use native.Mathlib.Omega.{arith}
+use lib.ListN.{List·getD-eq-default}
+use borrow.Author.Needs.{needs}
+use Rattle.cells.proofs.Joined.{data-read}
+use Rattle.cells.proofs.byte_from.Statement.{statement}
+use Rattle.cells.proofs.byte_from.Tie as tie
+
+add-if1 : tie.Need-add-if1
+add-if1 c = search needs
+
+shared-slice-read-wide-window : tie.Need-shared-slice-read-wide-window
+shared-slice-read-wide-window c = search needs
+
+add-wide-window : tie.Need-add-wide-window
+add-wide-window c = search needs
+
+shared-slice-read-wide-window-2 : tie.Need-shared-slice-read-wide-window-2
+shared-slice-read-wide-window-2 c = search needs
+
+add-wide-window-2 : tie.Need-add-wide-window-2
+add-wide-window-2 c = search needs
+
+shared-slice-read-wide-window-3 : tie.Need-shared-slice-read-wide-window-3
+shared-slice-read-wide-window-3 c = search needs
+
+wide-window-requires : tie.Need-wide-window-requires
+wide-window-requires c κs = search needs
+
+together-requires : tie.Need-together-requires
+together-requires c κs = search needs
+
+returns : tie.Need-returns
+returns c =
+    let l = c .before .before .before .before .before .before in
+    let a = l .before .args in
+    c .together .ensures
+    ∙ data-read (now (a .image)) (a .at) (a .shift) _ _ _ (c .before .wide-window .result) (l .before .pre .0)
+    (l .shared-slice-known .given (a .at) .fits) (l .shared-slice-known .given (a .at + 1) .fits) (l .shared-slice-known .given (a .at + 2) .fits)
+    refl refl refl (c .before .wide-window .ensures)
+
+byte-or-zero-requires : tie.Need-byte-or-zero-requires
+byte-or-zero-requires c κs = search needs
+
+add-byte-or-zero : tie.Need-add-byte-or-zero
+add-byte-or-zero c = search needs
+
+byte-or-zero-requires-2 : tie.Need-byte-or-zero-requires-2
+byte-or-zero-requires-2 c κs = search needs
+
+wide-window-requires-2 : tie.Need-wide-window-requires-2
+wide-window-requires-2 c κs = search needs
+
+together-requires-2 : tie.Need-together-requires-2
+together-requires-2 c κs = search needs
+
+returns-2 : tie.Need-returns-2
+returns-2 c =
+    let b = c .before .before in
+    let s = b .before .before .before .before in
+    let a = s .args in
+    c .together2 .ensures
+    ∙ data-read (now (a .image)) (a .at) (a .shift) (b .before .byte-or-zero .result) (b .byte-or-zero2 .result) 0 (c .before .wide-window2 .result) (s .pre .0)
+    (omega arith) (omega arith) (omega arith)
+    (b .before .byte-or-zero .ensures) (b .byte-or-zero2 .ensures) (sym (List·getD-eq-default (now (a .image)) 0 (b .before .before .if1 .left)))
+    (c .before .wide-window2 .ensures)
+
+pub byte-from-spec : {M : Type 1} → statement M
+byte-from-spec =
+    tie.close
+    (tie.spec
+    add-if1
+    shared-slice-read-wide-window
+    add-wide-window
+    shared-slice-read-wide-window-2
+    add-wide-window-2
+    shared-slice-read-wide-window-3
+    wide-window-requires
+    together-requires
+    returns
+    byte-or-zero-requires
+    add-byte-or-zero
+    byte-or-zero-requires-2
+    wide-window-requires-2
+    together-requires-2
+    returns-2)
