@@ -29,6 +29,37 @@ mod exported {
             answers: *mut [u8; 26],
             counts: *mut [u32; 2],
         ) -> u8;
+        pub fn station_pick(
+            layout: u32,
+            sector: u32,
+            first: *const u8,
+            first_len: usize,
+            first_answers: *const [u8; 26],
+            second: *const u8,
+            second_len: usize,
+            second_answers: *const [u8; 26],
+            taken: *mut [u32; 3],
+        ) -> u8;
+        pub fn station_request(
+            layout: u32,
+            cylinder: u32,
+            side: u32,
+            sector: u32,
+            mark: u32,
+            contents: *const u8,
+            contents_len: usize,
+            image: *const u8,
+            image_len: usize,
+            plan: *mut [u32; 4],
+        ) -> u8;
+        pub fn station_step(
+            plan: *mut [u32; 4],
+            mark: u32,
+            contents: *const u8,
+            contents_len: usize,
+            image: *mut u8,
+            image_len: usize,
+        ) -> u8;
     }
 }
 
@@ -101,4 +132,71 @@ pub fn read(
             counts,
         )
     }
+}
+
+/// Picks a sector from two passes. The answer's number or the refusal's; what is taken is the pass, 1 or 2, the first
+/// byte of its slot in that pass's area, and the slot's length; three zeros if it is neither.
+pub fn pick(
+    layout: u32,
+    sector: u32,
+    first: &[u8],
+    first_answers: &[u8; 26],
+    second: &[u8],
+    second_answers: &[u8; 26],
+    taken: &mut [u32; 3],
+) -> u8 {
+    // SAFETY: each pointer and length are those of one live slice or array; all but `taken` are only read, and `taken`,
+    // which is written, overlaps none of them; every number is taken.
+    unsafe {
+        exported::station_pick(
+            layout,
+            sector,
+            first.as_ptr(),
+            first.len(),
+            first_answers,
+            second.as_ptr(),
+            second.len(),
+            second_answers,
+            taken,
+        )
+    }
+}
+
+/// Asks for the rewrite of a sector. 0: the plan holds the layout, the cell at which the block's mark begins, the stores
+/// made and the stores in all. Else the number of the refusal, and the plan is zero.
+#[allow(clippy::too_many_arguments)]
+pub fn request(
+    layout: u32,
+    cylinder: u32,
+    side: u32,
+    sector: u32,
+    mark: u32,
+    contents: &[u8],
+    image: &[u8],
+    plan: &mut [u32; 4],
+) -> u8 {
+    // SAFETY: each pointer and length are those of one live slice or array; `contents` and `image` are only read, and
+    // `plan`, which is written, overlaps neither; every number is taken.
+    unsafe {
+        exported::station_request(
+            layout,
+            cylinder,
+            side,
+            sector,
+            mark,
+            contents.as_ptr(),
+            contents.len(),
+            image.as_ptr(),
+            image.len(),
+            plan,
+        )
+    }
+}
+
+/// Makes the next store of a rewrite. 0: it is made, and the plan has moved on. Else the number of the refusal, and plan
+/// and image are as they were.
+pub fn step(plan: &mut [u32; 4], mark: u32, contents: &[u8], image: &mut [u8]) -> u8 {
+    // SAFETY: each pointer and length are those of one live slice or array; `contents` is only read, and `plan` and
+    // `image`, which are written, overlap neither it nor each other; every number is taken, in the plan too.
+    unsafe { exported::station_step(plan, mark, contents.as_ptr(), contents.len(), image.as_mut_ptr(), image.len()) }
 }

@@ -1,34 +1,125 @@
-//! The reference's pick from two passes against the papers (01, "Two passes"). The library has none yet.
-use harness::reference::pick::{pick, Pick};
-use harness::tracks;
+//! The pick from two passes: the reference against the papers (01, "Two passes"), and `station_pick` against the
+//! reference.
+use harness::reference::pick::{pick, taken, Pick, Picker};
+use harness::rng::Rng;
+use harness::station;
+use harness::tracks::{self, Track};
 
 /// Every answer of a reader.
 const ANSWERS: [u8; 8] = [1, 2, 21, 22, 23, 24, 25, 26];
 
+/// All that is handed to a pick.
+#[derive(Clone)]
+struct Call {
+    layout: u32,
+    sector: u32,
+    first: Vec<u8>,
+    first_answers: [u8; 26],
+    second: Vec<u8>,
+    second_answers: [u8; 26],
+}
+
+impl Call {
+    /// Random areas with random answers, of which every eighth or so is no answer.
+    fn new(rng: &mut Rng, track: Track) -> Call {
+        let area = track.layout().area_bytes();
+        let mut answers = || -> [u8; 26] {
+            [0; 26].map(|_: u8| match rng.below(8) {
+                0 => rng.byte(),
+                _ => ANSWERS[rng.below(8)],
+            })
+        };
+        let (first_answers, second_answers) = (answers(), answers());
+        let sector = 1 + rng.below(track.layout().sectors) as u32;
+        let (first, second) = (rng.bytes(area), rng.bytes(area));
+        Call { layout: track.layout, sector, first, first_answers, second, second_answers }
+    }
+
+    /// What comes of it on one side: the number and what is taken, which held something else before.
+    fn outcome(&self, rng: &mut Rng, picker: Picker) -> (u8, [u32; 3]) {
+        let Call { layout, sector, first, first_answers, second, second_answers } = self;
+        let mut taken = [0; 3].map(|_: u32| rng.bits() as u32 | 1);
+        let number = picker(*layout, *sector, first, first_answers, second, second_answers, &mut taken);
+        (number, taken)
+    }
+}
+
+/// Holds the library against the reference on one call, and hands back their outcome.
+fn compare(rng: &mut Rng, call: &Call) -> (u8, [u32; 3]) {
+    let Call { layout, sector, first, second, .. } = call;
+    let expected = call.outcome(rng, taken);
+    let lent = call.clone();
+    let found = lent.outcome(rng, station::pick);
+    let (lengths, answers) = ((first.len(), second.len()), (call.first_answers, call.second_answers));
+    assert_eq!(found, expected, "layout {layout}, sector {sector}, areas of {lengths:?} bytes, answers {answers:?}");
+    assert!(lent.first == *first && lent.second == *second, "an area changed");
+    assert_eq!((lent.first_answers, lent.second_answers), answers, "answers changed");
+    expected
+}
+
 #[test]
 fn first_before_second_before_neither() {
+    let mut rng = Rng::new(1);
     let mut inputs = 0;
     for track in tracks::all() {
         let layout = track.layout();
+        let size = layout.size;
         let (first, second) = (vec![0x11; layout.area_bytes()], vec![0x22; layout.area_bytes()]);
+        let (first_answers, second_answers) = ([22; 26], [22; 26]);
+        let mut call = Call { layout: track.layout, sector: 1, first, first_answers, second, second_answers };
         for sector in 1..=layout.sectors {
             for (one, other) in ANSWERS.into_iter().flat_map(|one| ANSWERS.map(|other| (one, other))) {
-                let (mut first_answers, mut second_answers) = ([22; 26], [22; 26]);
-                first_answers[sector - 1] = one;
-                second_answers[sector - 1] = other;
-                let picked = pick(track.layout, sector as u32, &first, &first_answers, &second, &second_answers);
-                let slot = (sector - 1) * layout.size..sector * layout.size;
-                let expected = match (one <= 2, other <= 2) {
-                    (true, _) => Pick::First(one, &first[slot]),
-                    (false, true) => Pick::Second(other, &second[slot]),
-                    (false, false) => Pick::Neither(one),
+                (call.first_answers, call.second_answers, call.sector) = ([22; 26], [22; 26], sector as u32);
+                (call.first_answers[sector - 1], call.second_answers[sector - 1]) = (one, other);
+                let Call { layout, sector: number, first, first_answers, second, second_answers } = &call;
+                let picked = pick(*layout, *number, first, first_answers, second, second_answers);
+                let slot = (sector - 1) * size..sector * size;
+                let place = [slot.start as u32, size as u32];
+                let (expected, numbers) = match (one <= 2, other <= 2) {
+                    (true, _) => (Pick::First(one, &first[slot]), (one, [1, place[0], place[1]])),
+                    (false, true) => (Pick::Second(other, &second[slot]), (other, [2, place[0], place[1]])),
+                    (false, false) => (Pick::Neither(one), (one, [0; 3])),
                 };
                 assert_eq!(picked, expected, "sector {sector}, answers {one} and {other}: {track:?}");
+                assert_eq!(compare(&mut rng, &call), numbers, "sector {sector}, {one} and {other}: {track:?}");
                 inputs += 1;
             }
         }
     }
-    println!("pick, the reference on every pair of answers: {inputs} inputs compared");
+    println!("pick, every pair of answers: {inputs} inputs compared");
+}
+
+#[test]
+fn every_pair_of_numbers() {
+    let mut rng = Rng::new(2);
+    let mut call = Call::new(&mut rng, tracks::FM);
+    for one in 0..=0xFF {
+        for other in 0..=0xFF {
+            (call.first_answers[7], call.second_answers[7], call.sector) = (one, other, 8);
+            // a number that is no answer's counts as 21
+            let expected = match (one, other) {
+                (1 | 2, _) => (one, [1, 7 * 128, 128]),
+                (_, 1 | 2) => (other, [2, 7 * 128, 128]),
+                (21..=26, _) => (one, [0; 3]),
+                _ => (21, [0; 3]),
+            };
+            assert_eq!(compare(&mut rng, &call), expected, "{one} and {other}");
+        }
+    }
+    println!("pick, every pair of numbers in the answers: {} inputs compared", 256 * 256);
+}
+
+#[test]
+fn random_answers() {
+    const INPUTS: usize = 5_000;
+    let mut rng = Rng::new(3);
+    let (tracks, mut passes) = (tracks::all(), [0; 3]);
+    for _ in 0..INPUTS {
+        let track = tracks[rng.below(tracks.len())];
+        let call = Call::new(&mut rng, track);
+        passes[compare(&mut rng, &call).1[0] as usize] += 1;
+    }
+    println!("pick, random answers: {INPUTS} inputs compared, {passes:?} for neither, first, second");
 }
 
 #[test]
@@ -50,4 +141,39 @@ fn refusals() {
     }
     assert_eq!(picked(0, 26, &right, &right), Pick::First(1, &right[25 * 128..]));
     println!("pick, refusals of the reference: 8 inputs compared");
+}
+
+#[test]
+fn any_numbers_and_lengths() {
+    let mut rng = Rng::new(4);
+    let mut numbers = [0; 27];
+    for track in tracks::EACH {
+        let right = Call::new(&mut rng, track);
+        let (area, sectors) = (right.first.len(), track.layout().sectors as u32);
+        let high = |right: u32| [1 << 8 | right, 1 << 16 | right, 1 << 31 | right, u32::MAX];
+        let layouts: Vec<u32> = [track.layout, 4, 5, 255].into_iter().chain(high(track.layout)).collect();
+        let sectors: Vec<u32> = [1, sectors, 0, sectors + 1, 27, 255].into_iter().chain(high(1)).collect();
+        let lengths = [area, 0, 1, area - 1, area + 1, 26 * 128, 8 * 1_024];
+        for (layout, sector) in layouts.iter().flat_map(|&layout| sectors.iter().map(move |&sector| (layout, sector))) {
+            for (one, other) in lengths.into_iter().flat_map(|one| lengths.map(|other| (one, other))) {
+                let mut call = Call { layout, sector, ..right.clone() };
+                call.first.resize(one, 0x11);
+                call.second.resize(other, 0x22);
+                let refusal = match track.layout().sectors as u32 {
+                    _ if layout > 3 => Some(4),
+                    sectors if sector == 0 || sector > sectors => Some(9),
+                    _ if one != area || other != area => Some(5),
+                    _ => None,
+                };
+                let outcome = compare(&mut rng, &call);
+                let expected = refusal.map_or(outcome, |number| (number, [0; 3]));
+                assert_eq!(outcome, expected, "layout {layout}, sector {sector}, areas of {one} and {other} bytes");
+                numbers[usize::from(outcome.0)] += 1;
+            }
+        }
+    }
+    let [four, five, nine] = [4, 5, 9].map(|number: usize| numbers[number]);
+    let all: usize = numbers.iter().sum();
+    assert!(four > 0 && five > 0 && nine > 0 && four + five + nine < all, "numbers {numbers:?}");
+    println!("pick, any numbers and lengths: {all} inputs compared, [{four}, {five}, {nine}] for [4, 5, 9]");
 }

@@ -124,7 +124,7 @@ octets-read s at k a b d x y hk ha hb hd ea eb ed ex ey =
     rw (first, second) (data-octets (cell s) (cell-lt s) i)
 
 -- The data cells of sixteen cells, as the code takes them out, are those of the two octets.
-abbrev pub dataOf : ℕ → ℕ
+abbrev dataOf : ℕ → ℕ
 dataOf w = byteOf (w / 16384 % 2) (w / 4096 % 2) (w / 1024 % 2) (w / 256 % 2) (w / 64 % 2) (w / 16 % 2) (w / 4 % 2) (w % 2)
 
 -- The data cells of either half.

@@ -15,11 +15,11 @@ pub power : (k : ℕ) → k ≤ 8 → (1 ≤ 2 ^ k) × (2 ^ k ≤ 256)
 power k h = (pow-pos k, pow-mono h)
 
 -- The lowest k bits of both halves.
-pub low-both : (w k : ℕ) → k ≤ 8 → bitAnd w ((2 ^ k - 1) * 256 + (2 ^ k - 1)) ≡ w / 256 % 2 ^ k * 256 + w % 256 % 2 ^ k
+low-both : (w k : ℕ) → k ≤ 8 → bitAnd w ((2 ^ k - 1) * 256 + (2 ^ k - 1)) ≡ w / 256 % 2 ^ k * 256 + w % 256 % 2 ^ k
 low-both w k h =
     let mask = 2 ^ k - 1 in
     let e = and-block 8 (w / 256) mask (w % 256) mask (omega arith) (omega (arith, power k h)) in
-    (rw (div-add-mod' w 256, and-mask (w / 256) k, and-mask (w % 256) k) at e)
+    rw (div-add-mod' w 256, and-mask (w / 256) k, and-mask (w % 256) k) at e
 
 -- The lower cells of a word's halves moved up, and the upper ones moved down.
 moved : (a b p q k : ℕ) → a < 256 → b < 256 → p < 256 → q < 256 → k < 8
@@ -65,6 +65,11 @@ word-windows w n k low high hw hn hk el eh =
     )
     (sorted (w / 256 % 2 ^ (8 - k) * 2 ^ k) (w % 256 % 2 ^ (8 - k) * 2 ^ k) (n / 256 / 2 ^ (8 - k) % 2 ^ k) (n % 256 / 2 ^ (8 - k) % 2 ^ k))
 
+-- The data cells of a word, as the code takes them out: those of the lower half come first.
+word-nibbles : (o : ℕ) → byteOf (o / 64 % 2) (o / 16 % 2) (o / 4 % 2) (o % 2) (o / 16384 % 2) (o / 4096 % 2) (o / 1024 % 2) (o / 256 % 2)
+    ≡ nibbleOf (o % 256) * 16 + nibbleOf (o / 256)
+word-nibbles o = rw (upper-nibble o, lower-nibble o) (omega arith)
+
 -- The data byte that begins k cells into the byte `at`, as the code reads it: a, b and d are the three image bytes, w and n the words of
 -- them, o the two octets.
 pub word-read : (s : List ℕ) (at k a b d w n o : ℕ) → k < 8 → a < 256 → b < 256 → d < 256
@@ -79,7 +84,5 @@ word-read s at k a b d w n o hk ha hb hd ea eb ed ew en eo =
     let e = rw (w0, w1, n0, n1) at eo in
     let x : o % 256 ≡ (a * 256 + b) / 2 ^ (8 - k) % 256 = omega (arith, e) in
     let y : o / 256 ≡ (b * 256 + d) / 2 ^ (8 - k) % 256 = omega (arith, e) in
-    let digits : byteOf (o / 64 % 2) (o / 16 % 2) (o / 4 % 2) (o % 2) (o / 16384 % 2) (o / 4096 % 2) (o / 1024 % 2) (o / 256 % 2)
-    ≡ nibbleOf (o % 256) * 16 + nibbleOf (o / 256) = rw (upper-nibble o, lower-nibble o) (omega arith) in
     let third : at + 1 + 1 ≡ at + 2 = omega arith in
-    digits ∙ octets-read s at k a b d (o % 256) (o / 256) hk ha hb hd ea eb (rw third at ed) x y
+    word-nibbles o ∙ octets-read s at k a b d (o % 256) (o / 256) hk ha hb hd ea eb (rw third at ed) x y

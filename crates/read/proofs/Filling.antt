@@ -43,10 +43,9 @@ unfolding bytesEntered dataBytes
 enter-end mode mark c place n end slot r₀ r x y high all s e a re xe he ye ae =
     let at : place + 16 * n ≡ end = omega (arith, rw (s, length-data c place n) at e) in
     let two : bytesEntered r (dataBytes c end 2) ≡ all = rw (ae, he, xe, ye) in
-    sym (
-    sym (register-all mode mark (dataBytes c place (n + 2)))
-    ∙ rw (data-append c place n 2, at, bytes-append (registerAfter mode mark) (dataBytes c place n) (dataBytes c end 2), ← a, ← s, ← re) two
-    )
+    let entered : bytesEntered (registerAfter mode mark) (dataBytes c place (n + 2)) ≡ all =
+    rw (data-append c place n 2, at, bytes-append (registerAfter mode mark) (dataBytes c place n) (dataBytes c end 2), ← a, ← s, ← re) two in
+    sym (sym (register-all mode mark (dataBytes c place (n + 2))) ∙ entered)
 
 -- ---- whether the EDC is right
 

@@ -14,6 +14,7 @@ const CLOCKS: u16 = 0xAAAA;
 const DATA: u16 = 0x5555;
 
 /// The cells of `byte` after the bit `before`, the first cell in the highest bit: two image bytes.
+#[inline(always)] // the mode is known where a byte is coded
 pub fn code(mode: Mode, before: bool, byte: u8) -> u16 {
     let data = apart(byte);
     let clocks = match mode {
@@ -22,6 +23,12 @@ pub fn code(mode: Mode, before: bool, byte: u8) -> u16 {
         Mode::Mfm => CLOCKS & !(u16::from(before) << 15 | data >> 1 | data << 1),
     };
     clocks | data
+}
+
+/// The image bytes of a byte after another.
+#[inline(always)]
+pub fn after(mode: Mode, last: u8, byte: u8) -> [u8; 2] {
+    code(mode, last & 1 == 1, byte).to_be_bytes()
 }
 
 /// The data byte that the sixteen cells from `cell` hold, whatever their clock cells. Cells past the end of the image

@@ -1,9 +1,9 @@
 //! The formatter (01, "The image and the four layouts", "Order on the track", "Refused calls"; 004, clauses 5 and 6):
 //! one pass over the image, field after field.
-use super::coding::{code, Mode};
+use super::coding::{after, Mode};
 use super::edc::{continued, edc};
 use super::layouts::{of_track, Layout};
-use super::marks::{self, Mark, Marks};
+use super::marks::{self, Mark, Marks, CONTROL, DATA, LETTER_D};
 use std::mem::take;
 
 /// What all layouts of one mode share. A mark takes `MARK` image bytes.
@@ -40,13 +40,6 @@ const MFM: Order<8> = Order {
     zeros: 12,
     marks: marks::MFM,
 };
-
-/// The marks that a caller names.
-const DATA: u8 = 0xFB;
-const CONTROL: u8 = 0xF8;
-
-/// The letter D: on cylinder 0 the only first byte after a control mark (004, 7.4.2.4.3).
-const LETTER_D: u8 = 0x44;
 
 /// Writes the track, data and marks by sector number. Answers 0, or the number of the refusal, which leaves the image
 /// as it was.
@@ -175,9 +168,4 @@ impl<'a> Track<'a> {
         self.bytes(bytes);
         self.bytes(&continued(register, bytes).to_be_bytes());
     }
-}
-
-/// The image bytes of a byte after another.
-fn after(mode: Mode, last: u8, byte: u8) -> [u8; 2] {
-    code(mode, last & 1 == 1, byte).to_be_bytes()
 }

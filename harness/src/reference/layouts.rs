@@ -35,6 +35,9 @@ impl Layout {
     }
 }
 
+/// The longest image that is read or rewritten.
+const LONGEST: usize = 24_576;
+
 /// The layout for a track, or the first of the refusals 2, 3 and 4.
 pub fn of_track(layout: u32, cylinder: u32, side: u32) -> Result<&'static Layout, u8> {
     if cylinder > 74 {
@@ -53,4 +56,12 @@ pub fn of_track(layout: u32, cylinder: u32, side: u32) -> Result<&'static Layout
     } else {
         Err(4)
     }
+}
+
+/// Refusal 1.
+pub fn readable(image: &[u8]) -> Result<(), u8> {
+    if image.is_empty() || image.len() > LONGEST {
+        return Err(1);
+    }
+    Ok(())
 }

@@ -1,5 +1,12 @@
 //! The marks of both modes (01, "The image and the four layouts"; 004, 4.12).
 
+/// The marks that a caller names.
+pub const DATA: u8 = 0xFB;
+pub const CONTROL: u8 = 0xF8;
+
+/// The letter D: on cylinder 0 the only first byte after a control mark (004, 7.4.2.4.3).
+pub const LETTER_D: u8 = 0x44;
+
 /// A mark's image bytes, as 01's table has them, and the bytes that they stand for, which the EDC covers.
 pub struct Mark<const BYTES: usize> {
     pub image: [u8; BYTES],

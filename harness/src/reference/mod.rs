@@ -8,4 +8,7 @@ pub mod marks;
 pub mod pick;
 pub mod plain;
 pub mod read;
+pub mod rewrite;
 mod search;
+pub mod stores;
+mod walk;

@@ -38,6 +38,36 @@ pub fn pick<'a>(
     match (first_answers[index], second_answers[index]) {
         (answer @ (1 | 2), _) => Pick::First(answer, &first[slot]),
         (_, answer @ (1 | 2)) => Pick::Second(answer, &second[slot]),
-        (answer, _) => Pick::Neither(answer),
+        (answer @ 21..=26, _) => Pick::Neither(answer),
+        // no answer's number stands for a sector that was never met
+        _ => Pick::Neither(21),
     }
+}
+
+/// A pick in numbers: layout, sector, first area and answers, second area and answers, what is taken.
+pub type Picker = fn(u32, u32, &[u8], &[u8; 26], &[u8], &[u8; 26], &mut [u32; 3]) -> u8;
+
+/// The same in numbers: the answer's or the refusal's. What is taken is the pass, 1 or 2, the first byte of its slot in
+/// that pass's area, and the slot's length; or three zeros.
+#[inline(never)]
+pub fn taken(
+    layout: u32,
+    sector: u32,
+    first: &[u8],
+    first_answers: &[u8; 26],
+    second: &[u8],
+    second_answers: &[u8; 26],
+    taken: &mut [u32; 3],
+) -> u8 {
+    let (pass, slot, number) = match pick(layout, sector, first, first_answers, second, second_answers) {
+        Pick::First(answer, slot) => (1, slot, answer),
+        Pick::Second(answer, slot) => (2, slot, answer),
+        Pick::Neither(number) | Pick::Refused(number) => {
+            *taken = [0; 3];
+            return number;
+        }
+    };
+    let size = slot.len() as u32;
+    *taken = [pass, (sector - 1) * size, size];
+    number
 }

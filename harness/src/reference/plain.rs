@@ -22,11 +22,7 @@ pub fn read(
         Ok(layout) if area.len() != layout.sectors * layout.size => return 5,
         Ok(layout) => layout,
     };
-    let (mut met, own) = (Met::default(), [cylinder as u8, side as u8, layout.fourth]);
-    match layout.mode {
-        Mode::Fm => walk(&FM, 544, layout, own, image, &mut met),
-        Mode::Mfm => walk(&MFM, 1_088, layout, own, image, &mut met),
-    };
+    let met = met(layout, cylinder, side, image);
     *counts = [met.bad, met.foreign];
     for number in 1..=layout.sectors {
         let records: Vec<_> = met.accepted.iter().filter(|record| record.0 == number).collect();
@@ -35,19 +31,30 @@ pub fn read(
             1 => records[0].1,
             _ => 22,
         };
-        if let [(_, _, bytes)] = records[..] {
+        if let [(_, _, _, bytes)] = records[..] {
             area[(number - 1) * layout.size..][..bytes.len()].copy_from_slice(bytes);
         }
     }
     0
 }
 
-/// What the walk meets: the two counts, and of each accepted identifier sector number, answer and bytes.
+/// What the walk meets: the two counts, and of each accepted identifier sector number, answer, the cell at which its
+/// block's mark begins (0 without a block) and the bytes.
 #[derive(Default)]
-struct Met {
+pub(super) struct Met {
     bad: u32,
     foreign: u32,
-    accepted: Vec<(usize, u8, Vec<u8>)>,
+    pub(super) accepted: Vec<(usize, u8, usize, Vec<u8>)>,
+}
+
+/// The whole walk.
+pub(super) fn met(layout: &Layout, cylinder: u32, side: u32, image: &[u8]) -> Met {
+    let (mut met, own) = (Met::default(), [cylinder as u8, side as u8, layout.fourth]);
+    match layout.mode {
+        Mode::Fm => walk(&FM, 544, layout, own, image, &mut met),
+        Mode::Mfm => walk(&MFM, 1_088, layout, own, image, &mut met),
+    };
+    met
 }
 
 /// The walk from cell 0, as long as it goes on. `own` are the track's cylinder, side and fourth address byte.
@@ -82,21 +89,21 @@ fn walk<const MARK: usize>(
         let found = (cell..=cell + window).find_map(|place| Some((place, kind_at(place)?)));
         let (place, kind) = found.unwrap_or((cell, 0));
         if kind == 0 {
-            met.accepted.push((number, 23, vec![]));
+            met.accepted.push((number, 23, 0, vec![]));
             continue;
         }
         // 4
         cell = place + 8 * MARK + 16 * (layout.size + 2);
         if cell > cells {
-            met.accepted.push((number, 24, vec![]));
+            met.accepted.push((number, 24, place, vec![]));
             return None;
         }
         let block = bytes(image, place + 8 * MARK, layout.size + 2);
         let is_right = edc(&[kinds[kind].bytes, &block].concat()) == 0;
         met.accepted.push(match kind {
-            3 => (number, 25, vec![]),
-            _ if !is_right => (number, 26, vec![]),
-            _ => (number, kind as u8, block[..layout.size].to_vec()),
+            3 => (number, 25, place, vec![]),
+            _ if !is_right => (number, 26, place, vec![]),
+            _ => (number, kind as u8, place, block[..layout.size].to_vec()),
         });
     }
 }
@@ -107,7 +114,7 @@ fn is_one(image: &[u8], cell: usize) -> bool {
 }
 
 /// Whether a mark stands at a place: all its cells, in the image.
-fn stands<const MARK: usize>(image: &[u8], mark: &Mark<MARK>, place: usize) -> bool {
+pub(super) fn stands<const MARK: usize>(image: &[u8], mark: &Mark<MARK>, place: usize) -> bool {
     let is_inside = place + 8 * MARK <= 8 * image.len();
     is_inside && (0..8 * MARK).all(|cell| is_one(image, place + cell) == is_one(&mark.image, cell))
 }

@@ -24,6 +24,9 @@ pub const FM: Track = Track { layout: 0, cylinder: 0, side: 0 };
 /// One of those in MFM, with the smallest blocks.
 pub const MFM: Track = Track { layout: 1, cylinder: 5, side: 1 };
 
+/// A track of each layout.
+pub const EACH: [Track; 4] = [FM, MFM, Track { layout: 2, ..MFM }, Track { layout: 3, ..MFM }];
+
 /// Every kind of track with each layout that it takes.
 pub fn all() -> Vec<Track> {
     let mut tracks = vec![FM, Track { layout: 1, cylinder: 0, side: 1 }];

@@ -5,10 +5,12 @@ mod measure;
 use harness::reference;
 use harness::reference::coding::{code, Mode};
 use harness::reference::dump::Reader;
+use harness::reference::pick::Picker;
+use harness::reference::rewrite::{Request, Step};
 use harness::rng::Rng;
 use harness::station;
 use harness::tracks::damage::{false_beginnings, shifted};
-use harness::tracks::{Track, FM, MFM};
+use harness::tracks::{Track, EACH, FM, MFM};
 use measure::{hidden, Case};
 use std::cell::RefCell;
 use std::process::Command;
@@ -25,6 +27,8 @@ fn main() {
     data_byte(with_time);
     format(with_time);
     read(with_time);
+    pick(with_time);
+    rewrite(with_time);
 }
 
 /// The first line that a program writes. Also under an emulator the program is the machine's own.
@@ -97,7 +101,7 @@ fn read(with_time: bool) {
     // as long as may be
     const LONGEST: usize = 24_576;
     let rng = &mut Rng::new(5);
-    for track in [FM, MFM, Track { layout: 2, ..MFM }, Track { layout: 3, ..MFM }] {
+    for track in EACH {
         let (image, ..) = track.random(rng);
         read_image(&format!("read, layout {}", track.layout), track, &image, with_time);
     }
@@ -120,4 +124,43 @@ fn read_image(name: &str, track: Track, image: &[u8], with_time: bool) {
     };
     let (rattle, rust) = (station::read, reference::read::read);
     Case { name, drive: &drive, rattle, rust, idle: |_, _, _, _, _, _, _| 0 }.report(with_time);
+}
+
+fn pick(with_time: bool) {
+    let rng = &mut Rng::new(6);
+    let (first, second) = (rng.bytes(26 * 256), rng.bytes(26 * 256));
+    // the first pass, the second and neither by turns
+    let answers = |turns: [u8; 3]| -> [u8; 26] { std::array::from_fn(|sector| turns[sector % 3]) };
+    let (first_answers, second_answers) = (answers([1, 26, 26]), answers([2, 2, 21]));
+    let drive = |f: Picker| {
+        for sector in 1..=26 {
+            let mut taken = [0; 3];
+            hidden(f(1, sector, &first, &first_answers, &second, &second_answers, &mut taken));
+        }
+    };
+    let (rattle, rust) = (station::pick, reference::pick::taken);
+    Case { name: "pick, 26 sectors", drive: &drive, rattle, rust, idle: |_, _, _, _, _, _, _| 0 }.report(with_time);
+}
+
+/// A request and all its steps.
+fn rewrite(with_time: bool) {
+    type Rewrite = (Request, Step);
+    let rng = &mut Rng::new(7);
+    for track in EACH {
+        let Track { layout, cylinder, side } = track;
+        let size = track.layout().size;
+        let stores = 2 * size + if track == FM { 6 } else { 7 };
+        let contents = rng.bytes(size);
+        let image = RefCell::new(track.random(rng).0); // one for all calls
+        let drive = |(request, step): Rewrite| {
+            let (mut plan, image) = ([0; 4], &mut *image.borrow_mut());
+            assert_eq!(request(layout, cylinder, side, 5, 0xFB, &contents, image, &mut plan), 0);
+            (0..stores).for_each(|_| assert_eq!(step(&mut plan, 0xFB, &contents, image), 0));
+        };
+        let name = &format!("rewrite, layout {layout}");
+        let rattle: Rewrite = (station::request, station::step);
+        let rust: Rewrite = (reference::rewrite::request, reference::rewrite::step);
+        let idle: Rewrite = (|_, _, _, _, _, _, _, _| 0, |_, _, _, _| 0);
+        Case { name, drive: &drive, rattle, rust, idle }.report(with_time);
+    }
 }

@@ -1,0 +1,223 @@
+//! Rewrites, and how the two sides are held against each other on one of them.
+use harness::reference::rewrite::{self, Plan, Request};
+use harness::reference::stores::stores;
+use harness::rng::Rng;
+use harness::station;
+use harness::tracks::Track;
+use std::fmt;
+use std::ops::Range;
+
+/// All that is handed over for a rewrite, but the plan.
+#[derive(Clone)]
+pub struct Call {
+    pub track: Track,
+    pub sector: u32,
+    pub mark: u32,
+    pub contents: Vec<u8>,
+    pub image: Vec<u8>,
+}
+
+impl Call {
+    /// Either mark and random contents, as the track may hold them.
+    pub fn new(rng: &mut Rng, track: Track, sector: usize, image: &[u8]) -> Call {
+        let mark = [0xFB, 0xF8][rng.below(2)];
+        let mut contents = rng.bytes(track.layout().size);
+        // on cylinder 0 a control mark may stand only before the letter D
+        if track.cylinder == 0 && mark == 0xF8 {
+            contents[0] = 0x44;
+        }
+        Call { track, sector: sector as u32, mark, contents, image: image.to_vec() }
+    }
+
+    /// The same sector of the same image with other contents, perhaps after the other mark.
+    pub fn other(&self, rng: &mut Rng) -> Call {
+        Call::new(rng, self.track, self.sector as usize, &self.image)
+    }
+
+    /// What comes of the request on one side: number and plan, which held something else before.
+    pub fn asked(&self, rng: &mut Rng, request: Request) -> (u8, Plan) {
+        let Track { layout, cylinder, side } = self.track;
+        let (contents, contents_part) = among_others(rng, &self.contents);
+        let (image, part) = among_others(rng, &self.image);
+        let lent = (contents.clone(), image.clone());
+        let mut plan = [0; 4].map(|_: u32| rng.bits() as u32 | 1);
+        let (bytes, octets) = (&lent.0[contents_part], &lent.1[part]);
+        let number = request(layout, cylinder, side, self.sector, self.mark, bytes, octets, &mut plan);
+        assert!(lent == (contents, image), "contents or image changed by a request: {self:?}");
+        (number, plan)
+    }
+
+    /// Holds the two sides against each other on the request.
+    pub fn request(&self, rng: &mut Rng) -> (u8, Plan) {
+        let expected = self.asked(rng, rewrite::request);
+        assert_eq!(self.asked(rng, station::request), expected, "number and plan of the request: {self:?}");
+        expected
+    }
+
+    /// The plan of a request that both sides have to accept.
+    pub fn plan(&self, rng: &mut Rng) -> Plan {
+        let (number, plan) = self.request(rng);
+        assert_eq!(number, 0, "refusal of the request: {self:?}");
+        plan
+    }
+
+    /// The whole rewrite after an accepted request, by both sides and by the list of stores, which have to agree on the
+    /// image and the plan after each step. `cut` gets each number of stores and the image with them. Hands back the
+    /// last image.
+    pub fn rewritten(&self, rng: &mut Rng, plan: Plan, mut cut: impl FnMut(usize, &[u8])) -> Vec<u8> {
+        let [layout, place, _, all] = plan;
+        let stores = stores(self.track.layout, &self.image, place as usize, self.mark, &self.contents);
+        assert_eq!(plan, [self.track.layout, place, 0, stores.len() as u32], "the plan: {self:?}");
+        let (mut sides, mut listed, mut now) = (Sides::new(rng, &self.image), self.image.clone(), plan);
+        cut(0, &listed);
+        for (made, (at, octet)) in (1..).zip(stores) {
+            assert_eq!(sides.step(&mut now, self.mark, &self.contents), 0, "step {made}: {self:?}");
+            listed[at] = octet;
+            sides.agree(&listed);
+            assert_eq!(now, [layout, place, made, all], "the plan after step {made}: {self:?}");
+            cut(made as usize, &listed);
+        }
+        assert_eq!(sides.step(&mut now, self.mark, &self.contents), 12, "a step after the last: {self:?}");
+        sides.agree(&listed);
+        listed
+    }
+
+    /// The whole rewrite by the library alone.
+    pub fn done(&self) -> Vec<u8> {
+        let Track { layout, cylinder, side } = self.track;
+        let (mut plan, mut image) = ([0; 4], self.image.clone());
+        let number =
+            station::request(layout, cylinder, side, self.sector, self.mark, &self.contents, &image, &mut plan);
+        assert_eq!(number, 0, "refusal of the request: {self:?}");
+        for made in 0..plan[3] {
+            let number = station::step(&mut plan, self.mark, &self.contents, &mut image);
+            assert_eq!(number, 0, "after {made} stores: {self:?}");
+        }
+        image
+    }
+
+    /// What has to be read after some stores of `all`, if before the first of them `before` was.
+    pub fn expected(&self, before: &Reading, made: usize, all: usize) -> Reading {
+        let mut reading = before.clone();
+        let (index, size) = (self.sector as usize - 1, self.contents.len());
+        let slot = &mut reading.area[index * size..][..size];
+        if made == all {
+            reading.answers[index] = if self.mark == 0xFB { 1 } else { 2 };
+            slot.copy_from_slice(&self.contents);
+        } else if made > 0 {
+            reading.answers[index] = 25;
+            slot.fill(0);
+        }
+        reading
+    }
+}
+
+impl fmt::Debug for Call {
+    fn fmt(&self, f: &mut fmt::Formatter) -> fmt::Result {
+        let Call { track, sector, mark, contents, image } = self;
+        write!(f, "{track:?}, sector {sector}, mark {mark:02X}, {} data bytes, ", contents.len())?;
+        write!(f, "image of {} bytes", image.len())?;
+        if image.len() <= 4_096 {
+            write!(f, ": ")?;
+            image.iter().try_for_each(|octet| write!(f, "{octet:02X}"))?;
+        }
+        Ok(())
+    }
+}
+
+/// An image in the hands of both sides, among other bytes.
+pub struct Sides {
+    ours: Vec<u8>,
+    reference: Vec<u8>,
+    part: Range<usize>,
+}
+
+impl Sides {
+    pub fn new(rng: &mut Rng, image: &[u8]) -> Sides {
+        let (ours, part) = among_others(rng, image);
+        Sides { reference: ours.clone(), ours, part }
+    }
+
+    pub fn image(&self) -> &[u8] {
+        &self.reference[self.part.clone()]
+    }
+
+    /// Changes the image on both sides, as if somebody else wrote to it.
+    pub fn change(&mut self, mut write: impl FnMut(&mut [u8])) {
+        write(&mut self.ours[self.part.clone()]);
+        write(&mut self.reference[self.part.clone()]);
+    }
+
+    /// A step on both sides, which have to agree on number, plan and image. A refused one has to leave the plan as it
+    /// was.
+    pub fn step(&mut self, plan: &mut Plan, mark: u32, contents: &[u8]) -> u8 {
+        let (before, mut expected) = (*plan, *plan);
+        let number = rewrite::step(&mut expected, mark, contents, &mut self.reference[self.part.clone()]);
+        let found = station::step(plan, mark, contents, &mut self.ours[self.part.clone()]);
+        assert_eq!((found, *plan), (number, expected), "number and plan of a step from {before:?}");
+        assert!(number == 0 || *plan == before, "refused by {number}, but the plan changed: {plan:?}");
+        if !are_same(&self.ours, &self.reference) {
+            panic!("{}, where the image is {:?}", difference(&self.ours, &self.reference), self.part);
+        }
+        number
+    }
+
+    /// The image has to be this one.
+    pub fn agree(&self, image: &[u8]) {
+        assert!(are_same(self.image(), image), "{}", difference(self.image(), image));
+    }
+}
+
+/// Whether bytes are the same: a word at a time, since under an emulator that is faster than what is made for vectors.
+fn are_same(one: &[u8], other: &[u8]) -> bool {
+    let (words, others) = (one.chunks_exact(8), other.chunks_exact(8));
+    let (rest, other_rest) = (words.remainder(), others.remainder());
+    let word = |octets: &[u8]| u64::from_ne_bytes(octets.try_into().expect("eight of them"));
+    words.map(word).eq(others.map(word)) && rest == other_rest
+}
+
+/// What the library reads from an image.
+#[derive(Clone, PartialEq, Eq)]
+pub struct Reading {
+    pub answers: [u8; 26],
+    pub counts: [u32; 2],
+    pub area: Vec<u8>,
+}
+
+impl Reading {
+    pub fn new(track: Track, image: &[u8]) -> Reading {
+        let Track { layout, cylinder, side } = track;
+        let (mut answers, mut counts, mut area) = ([0; 26], [0; 2], vec![0; track.layout().area_bytes()]);
+        let number = station::read(layout, cylinder, side, image, &mut area, &mut answers, &mut counts);
+        assert_eq!(number, 0, "refusal of the reader: {track:?}");
+        Reading { answers, counts, area }
+    }
+
+    /// The sectors that can be rewritten, if their marks stand on byte boundaries.
+    pub fn whole(&self) -> Vec<usize> {
+        let answers = (1..).zip(self.answers);
+        answers.filter(|(_, answer)| [1, 2, 25, 26].contains(answer)).map(|(sector, _)| sector).collect()
+    }
+}
+
+impl fmt::Debug for Reading {
+    fn fmt(&self, f: &mut fmt::Formatter) -> fmt::Result {
+        write!(f, "answers {:?}, counts {:?}", self.answers, self.counts)
+    }
+}
+
+/// Where two images differ first.
+pub fn difference(found: &[u8], expected: &[u8]) -> String {
+    let mut bytes = found.iter().zip(expected).enumerate();
+    match bytes.find(|(_, (found, expected))| found != expected) {
+        Some((at, (found, expected))) => format!("byte {at} is {found:02X}, not {expected:02X}"),
+        None => format!("{} bytes, not {}", found.len(), expected.len()),
+    }
+}
+
+/// A copy of the bytes among others, and where it stands there: at any alignment.
+fn among_others(rng: &mut Rng, bytes: &[u8]) -> (Vec<u8>, Range<usize>) {
+    let from = rng.below(16);
+    let all = [&rng.bytes(from), bytes, &rng.bytes(16)].concat();
+    (all, from..from + bytes.len())
+}
