@@ -1,58 +1,112 @@
--- Where a mark begins in one byte, the next byte lies wholly inside it, and so tells in which cells a mark can begin.
-use mathlib.Core.Path.{_≡_, refl, sym, ap, _∙_}
-use mathlib.Core.Bool.{Bool, true, false, _||_}
-use mathlib.Core.List.{List}
-use mathlib.Core.Logic.{⊎-elim}
-use Prim.Native.Nat.{ℕ, _+_, _-_, _*_, _/_, _%_, _^_, _<_, _≤_}
+-- Where a mark begins up to eight cells before a byte, the byte lies wholly inside it, and so tells how many cells before it a mark can begin.
+use mathlib.Core.Path.{_≡_, _∙_}
+use mathlib.Core.Bool.{Bool, true, false, _||_, _&&_, and-eq-true-iff}
+use mathlib.Core.Logic.{_⊎_, inl, inr, ⊎-elim}
+use Prim.Native.Nat.{ℕ, zero, suc, _+_, _-_, _*_, _/_, _%_, _^_, _<_, _≤_}
 use native.Mathlib.Omega.{arith}
-use lib.Dec.{T, eqb, eqb→eq}
-use native.Mathlib.Nat.{add-zero, zero-div, zero-mul, mul-assoc, eq-or-lt-of-le}
-use lib.ListN.{length, getD}
-use lib.Pow.{field, mod-mod-pow, pow-add, shl-shr, shr-shr}
-use Rattle.cells.specs.Cells.{cell, byteOf, octet}
+use lib.Dec.{T, eqb, eqb→eq, leb, leb→le, ltb, ltb→lt}
+use lib.ListN.{getD}
+use Rattle.cells.specs.Cells.{octet}
 use Rattle.cells.specs.declared.Mode.{Mode}
 use Rattle.cells.specs.declared.Mode.the-variants.{Fm, Mfm}
-use Rattle.cells.proofs.Joined.{between, aligned, cell-lt}
+use Rattle.cells.proofs.Joined.{between}
 use Rattle.cells.proofs.Table.{all, all-at}
 use Rattle.marks.specs.Marks.{string, stands}
-use Rattle.marks.specs.Search.{some, Rules}
+use Rattle.marks.specs.Search.{among, sought}
+use Rattle.marks.specs.Aids.{Rules}
 use Rattle.marks.specs.declared.Mark.{Mark}
 use Rattle.marks.specs.declared.Mark.the-variants.{Index, Identifier, Data, Control, Open}
 use Rattle.marks.specs.declared.Kinds.{Kinds}
 use Rattle.marks.proofs.Spelling.{Stand, stands-bytes, is-false}
-use Rattle.marks.proofs.Searching.{searchable, standing-none, some-none}
+use Rattle.marks.proofs.Searching.{standing-off}
 
--- The byte that follows the one in which a mark begins, s cells from that byte's start: the window over the mark's first two bytes.
+-- The byte behind the first k cells of a mark: the window over the mark's first two bytes.
 abbrev inside : Mode → Mark → ℕ → ℕ
-inside mode mark s = (getD (string mode mark) 0 0 * 256 + getD (string mode mark) 1 0) / 2 ^ s % 256
+inside mode mark k = (getD (string mode mark) 0 0 * 256 + getD (string mode mark) 1 0) / 2 ^ (8 - k) % 256
 
--- 1 where some mark that begins s cells into a byte has the byte b behind it.
-abbrev may : Mode → ℕ → ℕ → ℕ
-may mode b s =
-    elim (eqb (inside mode Identifier s) b || (eqb (inside mode Data s) b || (eqb (inside mode Control s) b || eqb (inside mode Open s) b))) [
-      | true ↦ 1
-      | false ↦ 0
-    ]
+-- The marks that a table counts: all that can be looked for, or the identifier mark alone.
+abbrev counted : Bool → Mark → Bool
+counted block Index = false
+counted block Identifier = true
+counted block Data = block
+counted block Control = block
+counted block Open = block
 
--- In which cells a mark may begin: what the code's tables hold.
-abbrev pub begins : Mode → ℕ → ℕ
-begins mode b = byteOf (may mode b 0) (may mode b 1) (may mode b 2) (may mode b 3) (may mode b 4) (may mode b 5) (may mode b 6) (may mode b 7)
+-- Some counted mark has the byte b behind its first k cells.
+abbrev may : Mode → Bool → ℕ → ℕ → Bool
+may mode block b k =
+    eqb (inside mode Identifier k) b || (block && (eqb (inside mode Data k) b || (eqb (inside mode Control k) b || eqb (inside mode Open k) b)))
 
--- A mark's own byte has the bit of its cell: one test for each mark, at the eight cells.
-kept : Mode → Mark → ℕ → Bool
-kept mode mark s = eqb (begins mode (inside mode mark s) / 2 ^ (7 - s) % 2) 1
+-- One more number in an entry: above the one that it has, if it has one.
+abbrev noted : Bool → ℕ → ℕ → ℕ
+noted false k r = r
+noted true k zero = k
+noted true k (suc r) = 16 * k + suc r
 
-all-kept : (mode : Mode) (mark : Mark) → T (searchable mark) → T (all (kept mode mark) 8)
+-- How many cells before the byte b a counted mark may begin: what the code's tables hold.
+abbrev pub begins : Mode → Bool → ℕ → ℕ
+begins mode block b =
+    noted (may mode block b 1) 1 (noted (may mode block b 2) 2 (noted (may mode block b 3) 3 (noted (may mode block b 4) 4
+    (noted (may mode block b 5) 5 (noted (may mode block b 6) 6 (noted (may mode block b 7) 7 (noted (may mode block b 8) 8 0)))))))
+
+either : (a b : Bool) → T (a || b) → T a ⊎ T b
+either true b t = inl tt
+either false b t = inr t
+
+-- The number k is in an entry.
+abbrev holds : ℕ → ℕ → Bool
+holds k r = eqb k (r % 16) || eqb k (r / 16)
+
+held : (k r : ℕ) → T (holds k r) → (k ≡ r % 16) ⊎ (k ≡ r / 16)
+held k r t = ⊎-elim (λ a. inl (eqb→eq k (r % 16) a)) (λ b. inr (eqb→eq k (r / 16) b)) (either (eqb k (r % 16)) (eqb k (r / 16)) t)
+
+-- An entry is 0, or its greater number is the lower one; and none is above 8: a test for each table, at the 256 bytes.
+abbrev ordered : ℕ → Bool
+ordered r = eqb r 0 || ltb (r / 16) (r % 16)
+
+order : (r : ℕ) → T (ordered r) → 0 < r → r / 16 < r % 16
+order r t more = ⊎-elim (λ z. let e = eqb→eq r 0 z in absurd (omega arith)) (λ l. ltb→lt (r / 16) (r % 16) l) (either (eqb r 0) (ltb (r / 16) (r % 16)) t)
+
+ordered-at : Mode → Bool → ℕ → Bool
+ordered-at mode block b = ordered (begins mode block b)
+
+all-ordered : (mode : Mode) (block : Bool) → T (all (ordered-at mode block) 256)
+unfolding ordered-at
+all-ordered Fm true = tt
+all-ordered Fm false = tt
+all-ordered Mfm true = tt
+all-ordered Mfm false = tt
+
+small-at : Mode → Bool → ℕ → Bool
+small-at mode block b = leb (begins mode block b % 16) 8
+
+all-small : (mode : Mode) (block : Bool) → T (all (small-at mode block) 256)
+unfolding small-at
+all-small Fm true = tt
+all-small Fm false = tt
+all-small Mfm true = tt
+all-small Mfm false = tt
+
+-- A mark's own byte has the number of its cells: one test for each mark, at the numbers 8 to 1.
+kept : Mode → Bool → Mark → ℕ → Bool
+kept mode block mark s = holds (8 - s) (begins mode block (inside mode mark (8 - s)))
+
+all-kept : (mode : Mode) (block : Bool) (mark : Mark) → T (counted block mark) → T (all (kept mode block mark) 8)
 unfolding kept
-all-kept mode Index t = absurd t
-all-kept Fm Identifier t = tt
-all-kept Fm Data t = tt
-all-kept Fm Control t = tt
-all-kept Fm Open t = tt
-all-kept Mfm Identifier t = tt
-all-kept Mfm Data t = tt
-all-kept Mfm Control t = tt
-all-kept Mfm Open t = tt
+all-kept mode block Index t = absurd t
+all-kept Fm true Identifier t = tt
+all-kept Fm true Data t = tt
+all-kept Fm true Control t = tt
+all-kept Fm true Open t = tt
+all-kept Mfm true Identifier t = tt
+all-kept Mfm true Data t = tt
+all-kept Mfm true Control t = tt
+all-kept Mfm true Open t = tt
+all-kept Fm false Identifier t = tt
+all-kept Mfm false Identifier t = tt
+all-kept mode false Data t = absurd t
+all-kept mode false Control t = absurd t
+all-kept mode false Open t = absurd t
 
 -- The two first bytes of a mark that stands.
 firsts : (mode : Mode) (mark : Mark) (c : ℕ → ℕ) (p : ℕ) → Stand c p (string mode mark)
@@ -68,75 +122,49 @@ firsts Mfm Data c p e = (e .0, e .1 .0)
 firsts Mfm Control c p e = (e .0, e .1 .0)
 firsts Mfm Open c p e = (e .0, e .1 .0)
 
--- Where the byte's bit is 0, no mark begins.
-pub rules : (mode : Mode) (byte : ℕ) → Rules mode byte (begins mode byte)
+-- Where a mark stands k cells before a byte, that byte's entry has k.
+has : (mode : Mode) (block : Bool) (c : ℕ → ℕ) → ((i : ℕ) → c i < 2) → (n p k : ℕ) (mark : Mark) → T (counted block mark) → 0 < k → k ≤ 8
+    → stands mode c n mark p ≡ true → (k ≡ begins mode block (octet c (p + k)) % 16) ⊎ (k ≡ begins mode block (octet c (p + k)) / 16)
 unfolding kept
-rules mode byte c bit n p kinds e z = standing-none mode c n kinds p (λ mark t. is-false (stands mode c n mark p) (λ s. no mark t s))
+has mode block c bit n p k mark t low high s =
+    let two = firsts mode mark c p (stands-bytes mode c n mark p s) in
+    let back : 8 - (8 - k) ≡ k = omega arith in
+    let here : octet c (p + k) ≡ inside mode mark k = rw back at (between c bit p (8 - k) (omega arith)) ∙ rw (two .0, two .1) in
+    let test = rw back at (all-at (kept mode block mark) 8 (all-kept mode block mark t) (8 - k) (omega arith)) in
+    rw here (held k (begins mode block (inside mode mark k)) test)
+
+-- So a table rules out what it has not, for kinds whose marks it counts.
+pub rules : (mode : Mode) (block : Bool) (kinds : Kinds) → ((mark : Mark) → among kinds mark ≡ true → T (counted block mark))
+    → (byte : ℕ) → byte < 256 → Rules mode kinds byte (begins mode block byte)
+unfolding ordered-at small-at sought
+rules mode block kinds fit byte h = (
+  order (begins mode block byte) (all-at (ordered-at mode block) 256 (all-ordered mode block) byte h),
+  leb→le (begins mode block byte % 16) 8 (all-at (small-at mode block) 256 (all-small mode block) byte h),
+  λ c bit n p k low high e x y. standing-off mode c n kinds p (λ mark _. is-false (sought mode c n kinds p mark) (λ s. no c bit n p k low high e x y mark s)),
+)
   where
-    no : (mark : Mark) → T (searchable mark) → stands mode c n mark p ≡ true → ⊥
-    no mark t s =
-        let shift : p % 8 < 8 = omega arith in
-        let two = firsts mode mark c p (stands-bytes mode c n mark p s) in
-        let place : 8 * (p / 8 + 1) ≡ p + (8 - p % 8) = omega arith in
-        let here : byte ≡ inside mode mark (p % 8) = sym e ∙ ap (octet c) place ∙ between c bit p (p % 8) shift ∙ rw (two .0, two .1) in
-        let one : begins mode (inside mode mark (p % 8)) / 2 ^ (7 - p % 8) % 2 ≡ 1 =
-        eqb→eq _ 1 (all-at (kept mode mark) 8 (all-kept mode mark t) (p % 8) shift) in
-        let zero′ : begins mode (inside mode mark (p % 8)) / 2 ^ (7 - p % 8) % 2 ≡ 0 = rw (← here) z in
-        let w : _≡_ {A = ℕ} 0 1 = sym zero′ ∙ one in
-        omega arith
+    no : (c : ℕ → ℕ) → ((i : ℕ) → c i < 2) → (n p k : ℕ) → 0 < k → k ≤ 8 → octet c (p + k) ≡ byte
+        → (k ≡ begins mode block byte % 16 → ⊥) → (k ≡ begins mode block byte / 16 → ⊥) → (mark : Mark) → (among kinds mark && stands mode c n mark p) ≡ true → ⊥
+    no c bit n p k low high e x y mark s =
+        let both = and-eq-true-iff (among kinds mark) (stands mode c n mark p) .0 s in
+        ⊎-elim x y (rw e at (has mode block c bit n p k mark (fit mark (both .0)) low high (both .1)))
 
--- What a table holds, in the mode that an arm of the code knows.
-pub rules-by : {mode : Mode} (m : Mode) (byte r : ℕ) → mode ≡ m → r ≡ begins m byte → Rules mode byte r
-rules-by m byte r e f = rw (e, f) (rules m byte)
+-- A table of all marks is for any kinds, that of the identifier mark for those without the marks of a block.
+pub fits-all : (kinds : Kinds) (mark : Mark) → among kinds mark ≡ true → T (counted true mark)
+fits-all kinds Index e = let z : _≡_ {A = ℕ} 0 1 = cc in absurd (omega arith)
+fits-all kinds Identifier e = tt
+fits-all kinds Data e = tt
+fits-all kinds Control e = tt
+fits-all kinds Open e = tt
 
--- ---- the cells of one byte, tried one after the other: what is left of the byte's bits has the next cell's at the top
+pub fits-identifiers : (kinds : Kinds) → kinds .block ≡ false → (mark : Mark) → among kinds mark ≡ true → T (counted false mark)
+fits-identifiers kinds f Index e = let z : _≡_ {A = ℕ} 0 1 = cc in absurd (omega arith)
+fits-identifiers kinds f Identifier e = tt
+fits-identifiers kinds f Data e = let z : _≡_ {A = ℕ} 0 1 = cc in absurd (omega arith)
+fits-identifiers kinds f Control e = let z : _≡_ {A = ℕ} 0 1 = cc in absurd (omega arith)
+fits-identifiers kinds f Open e = let z : _≡_ {A = ℕ} 0 1 = cc in absurd (omega arith)
 
--- Of what is left after o cells, bit j is that of cell o + j.
-left-bit : (b o j : ℕ) → o + j < 8 → b * 2 ^ o % 256 / 2 ^ (7 - j) % 2 ≡ b / 2 ^ (7 - (o + j)) % 2
-left-bit b o j h =
-    let width : j + 1 + (7 - j) ≡ 8 = omega arith in
-    let low : 7 - j ≡ o + (7 - (o + j)) = omega arith in
-    ap (λ (k : ℕ). b * 2 ^ o % 2 ^ k / 2 ^ (7 - j) % 2) (sym width)
-    ∙ ap (λ (x : ℕ). x % 2) (field (b * 2 ^ o) (j + 1) (7 - j))
-    ∙ mod-mod-pow (b * 2 ^ o / 2 ^ (7 - j)) j 1
-    ∙ ap (λ (k : ℕ). b * 2 ^ o / 2 ^ k % 2) low
-    ∙ ap (λ (x : ℕ). x % 2) (sym (shr-shr (b * 2 ^ o) o (7 - (o + j))) ∙ ap (λ (x : ℕ). x / 2 ^ (7 - (o + j))) (shl-shr b o))
-
--- One cell more.
-pub left-next : (b o : ℕ) → b * 2 ^ o % 256 % 128 * 2 ≡ b * 2 ^ (o + 1) % 256
-left-next b o =
-    let e : b * 2 ^ (o + 1) ≡ b * 2 ^ o * 2 = ap (λ (x : ℕ). b * x) (pow-add 2 o 1) ∙ sym (mul-assoc b (2 ^ o) 2) in
-    rw e (omega arith)
-
--- Something is left only before the next byte.
-pub left-within : (b o left : ℕ) → o ≤ 8 → left ≡ b * 2 ^ o % 256 → (left ≡ 0 → ⊥) → o < 8
-left-within b o left h e more = ⊎-elim (λ q. absurd (more (e ∙ rw q (omega arith)))) (λ l. l) (eq-or-lt-of-le h)
-
--- ---- what the search passes over: image is the list of the image's bytes, and known what the byte behind that of `from` says
-
-module _ (mode : Mode) (kinds : Kinds) (image : List ℕ) (from begin : ℕ)
-    (byte : getD image (from / 8 + 1) 0 < 256) (behind : getD image (from / 8 + 1 + 1) 0 < 256)
-    (known : Rules mode (getD image (from / 8 + 1) 0) begin) where
-  -- the cell o of the byte, by its bit
-  passed : (o p : ℕ) → o < 8 → p ≡ 8 * (from / 8) + o → begin / 2 ^ (7 - o) % 2 ≡ 0 → some mode (cell image) (8 * length image) kinds p ≡ false
-  passed o p h e z =
-      let q : p / 8 ≡ from / 8 = omega arith in
-      let r : p % 8 ≡ o = omega arith in
-      some-none mode (cell image) (8 * length image) kinds p
-      (known (cell image) (cell-lt image) (8 * length image) p kinds (rw q (aligned image (from / 8 + 1) byte behind)) (rw r z))
-
-  -- one cell, where the top bit of what is left is 0
-  pub passed-one : (o p left : ℕ) → o < 8 → p ≡ 8 * (from / 8) + o → left ≡ begin * 2 ^ o % 256 → left < 128
-      → some mode (cell image) (8 * length image) kinds p ≡ false
-  passed-one o p left h e f l =
-      passed o p h e (sym (rw add-zero at (left-bit begin o 0 (omega arith))) ∙ rw (← f) (omega arith))
-
-  -- all the cells up to the next byte, where nothing is left
-  pub passed-all : (o p left : ℕ) → p ≡ 8 * (from / 8) + o → left ≡ begin * 2 ^ o % 256 → left ≡ 0
-      → (q : ℕ) → p ≤ q → q < 8 * (from / 8 + 1) → some mode (cell image) (8 * length image) kinds q ≡ false
-  passed-all o p left e f z q h l =
-      passed (o + (q - p)) q (omega arith) (omega arith) (sym (left-bit begin o (q - p) (omega arith)) ∙ rw (← f, z, zero-div))
-
-  -- all of them, where no mark can begin
-  pub passed-byte : begin ≡ 0 → (q : ℕ) → from ≤ q → q < 8 * (from / 8 + 1) → some mode (cell image) (8 * length image) kinds q ≡ false
-  passed-byte z = passed-all (from % 8) from 0 (omega arith) (rw (z, zero-mul)) refl
+-- What a table holds, in the mode that its function knows.
+pub rules-of : (mode : Mode) (block : Bool) (kinds : Kinds) → ((mark : Mark) → among kinds mark ≡ true → T (counted block mark))
+    → (byte r : ℕ) → byte < 256 → r ≡ begins mode block byte → Rules mode kinds byte r
+rules-of mode block kinds fit byte r h e = rw e (rules mode block kinds fit byte h)

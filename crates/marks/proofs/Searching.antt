@@ -1,7 +1,7 @@
 -- Laws of the search: what is passed over, what is found, and that what is found lies in the range and stands there.
 use mathlib.Core.Path.{_≡_, refl, sym, ap, _∙_}
-use mathlib.Core.Bool.{Bool, true, false, _&&_, and-false}
-use Prim.Native.Nat.{ℕ, zero, suc, _+_, _-_, _*_, _/_, _<_, _≤_}
+use mathlib.Core.Bool.{Bool, true, false, _&&_, and-false, and-eq-true-iff}
+use Prim.Native.Nat.{ℕ, zero, suc, _+_, _-_, _*_, _<_, _≤_}
 use native.Mathlib.Nat.{add-zero}
 use native.Mathlib.Omega.{arith}
 use native.Mathlib.Decide.{decLe}
@@ -9,7 +9,6 @@ use mathlib.Core.Logic.{_⊎_, inl, inr, ⊎-elim}
 use lib.Dec.{T}
 use lib.ListN.{length}
 use Rattle.cells.specs.declared.Mode.{Mode}
-use Rattle.cells.specs.declared.Mode.the-variants.{Fm, Mfm}
 use Rattle.marks.specs.Marks.{string, stands}
 use Rattle.marks.specs.Search.{nowhere, at, find, among, choose, isFound, sought, standing, some, named, firstMark}
 use Rattle.marks.specs.declared.Mark.{Mark}
@@ -78,22 +77,16 @@ searchable Data = true
 searchable Control = true
 searchable Open = true
 
--- Every mark has two bytes or more.
-pub string-two : (mode : Mode) (mark : Mark) → 2 ≤ length (string mode mark)
-string-two mode mark = rw (string-length mode mark Open) (two mode)
-  where
-    two : (mode : Mode) → 2 ≤ length (string mode Open)
-    two Fm = omega arith
-    two Mfm = omega arith
-
 module _ (mode : Mode) (c : ℕ → ℕ) (n : ℕ) (kinds : Kinds) where
-  -- Where no mark stands that can be looked for, none is found.
+  -- Where no mark of the kinds stands, none is found; and none is where no mark stands that can be looked for.
+  pub standing-off : (p : ℕ) → ((mark : Mark) → T (searchable mark) → sought mode c n kinds p mark ≡ false) → standing mode c n kinds p ≡ Nothing
+  unfolding standing
+  standing-off p off = rw (off Identifier tt, off Data tt, off Control tt, off Open tt)
+
   pub standing-none : (p : ℕ) → ((mark : Mark) → T (searchable mark) → stands mode c n mark p ≡ false) → standing mode c n kinds p ≡ Nothing
-  unfolding standing sought
-  standing-none p none = rw (off Identifier tt, off Data tt, off Control tt, off Open tt)
-    where
-      off : (mark : Mark) → T (searchable mark) → (among kinds mark && stands mode c n mark p) ≡ false
-      off mark t = ap (λ (b : Bool). among kinds mark && b) (none mark t) ∙ and-false (among kinds mark)
+  unfolding sought
+  standing-none p none =
+      standing-off p (λ mark t. ap (λ (b : Bool). among kinds mark && b) (none mark t) ∙ and-false (among kinds mark))
 
   -- What `standing` says of a place decides the search's test there.
   pub some-none : (p : ℕ) → standing mode c n kinds p ≡ Nothing → some mode c n kinds p ≡ false
@@ -104,15 +97,15 @@ module _ (mode : Mode) (c : ℕ → ℕ) (n : ℕ) (kinds : Kinds) where
   unfolding some
   some-found p q mark e = rw e
 
-  -- No mark begins in the last byte of an image of k bytes, or behind it.
-  pub standing-beyond : (p k : ℕ) → n ≡ 8 * k → k ≤ p / 8 + 1 → standing mode c n kinds p ≡ Nothing
+  -- No mark stands that would reach past the end.
+  pub standing-beyond : (p : ℕ) → n < p + 8 * length (string mode Open) → standing mode c n kinds p ≡ Nothing
   unfolding stands
-  standing-beyond p k e h = standing-none p (λ mark _. lies-beyond c n (string mode mark) p (omega (arith, string-two mode mark)))
+  standing-beyond p h = standing-none p (λ mark _. lies-beyond c n (string mode mark) p (rw (string-length mode mark Open) h))
 
-  -- A mark that is not of the kinds is not looked at.
-  pub sought-on : (p : ℕ) (mark : Mark) {r : Bool} → among kinds mark ≡ true → r ≡ stands mode c n mark p → r ≡ sought mode c n kinds p mark
+  -- A mark that is found stands, and one that is not of the kinds is not.
+  pub sought-stands : (p : ℕ) (mark : Mark) → sought mode c n kinds p mark ≡ true → stands mode c n mark p ≡ true
   unfolding sought
-  sought-on p mark e f = rw e f
+  sought-stands p mark e = and-eq-true-iff (among kinds mark) (stands mode c n mark p) .0 e .1
 
   pub sought-off : (p : ℕ) (mark : Mark) → among kinds mark ≡ false → sought mode c n kinds p mark ≡ false
   unfolding sought
@@ -126,17 +119,22 @@ module _ (mode : Mode) (c : ℕ → ℕ) (n : ℕ) (kinds : Kinds) where
       let up : p + (e - p) ≡ e = omega arith in
       ap (named mode c n kinds) (find-skip (some mode c n kinds) (e - p) p to (λ j l. none (p + j) (omega arith) (omega arith))) ∙ rw up
 
-  -- Where the search ends: no place is left, the image of k bytes ends, or a mark stands.
+  -- Where the search ends: no place is left, the image ends, or a mark stands.
   pub first-end : (p to : ℕ) → to ≤ p → firstMark mode c n kinds p to ≡ Nothing
   unfolding firstMark
   first-end p to h = ap (named mode c n kinds) (find-end (some mode c n kinds) p to h)
 
-  pub first-beyond : (p k to : ℕ) → n ≡ 8 * k → k ≤ p / 8 + 1 → firstMark mode c n kinds p to ≡ Nothing
+  pub first-beyond : (p to : ℕ) → n < p + 8 * length (string mode Open) → firstMark mode c n kinds p to ≡ Nothing
   unfolding firstMark
-  first-beyond p k to e h =
-      ap (named mode c n kinds) (find-none (some mode c n kinds) (to - p) p (λ q l. some-none q (standing-beyond q k e (omega arith))))
+  first-beyond p to h =
+      ap (named mode c n kinds) (find-none (some mode c n kinds) (to - p) p (λ q l. some-none q (standing-beyond q (omega arith))))
 
   pub first-found : (p to q : ℕ) (mark : Mark) {r : Found} → p < to → r ≡ standing mode c n kinds p → r ≡ At q mark → firstMark mode c n kinds p to ≡ r
   unfolding firstMark
   first-found p to q mark h e f =
       ap (named mode c n kinds) (find-hit (some mode c n kinds) p to h (some-found p q mark (sym e ∙ f))) ∙ sym e
+
+-- What a search answers, in the mode that an arm of the code knows.
+pub first-by : {mode : Mode} (m : Mode) (c : ℕ → ℕ) (n : ℕ) (kinds : Kinds) (from to : ℕ) {r : Found} → mode ≡ m → r ≡ firstMark m c n kinds from to
+    → r ≡ firstMark mode c n kinds from to
+first-by m c n kinds from to e f = rw e f

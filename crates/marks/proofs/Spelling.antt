@@ -63,6 +63,11 @@ stand c p (b ∷ bs) e =
     let each = and-eq-true-iff (eqb (octet c p) b) (spells c (p + 8) bs) .0 e in
     (eqb-true _ _ (each .0), stand c (p + 8) bs (each .1))
 
+pub stand-spells : (c : ℕ → ℕ) (p : ℕ) (bs : List ℕ) → Stand c p bs → spells c p bs ≡ true
+unfolding spells
+stand-spells c p [] s = refl
+stand-spells c p (b ∷ bs) s = rw (eq-eqb (octet c p) b (s .0)) (stand-spells c (p + 8) bs (s .1))
+
 pub stands-bytes : (mode : Mode) (c : ℕ → ℕ) (n : ℕ) (mark : Mark) (p : ℕ) → stands mode c n mark p ≡ true → Stand c p (string mode mark)
 unfolding stands lies
 stands-bytes mode c n mark p e =
@@ -97,6 +102,13 @@ string-length mode k l = all mode k ∙ sym (all mode l)
     all Mfm Control = refl
     all Mfm Open = refl
 
+pub string-two : (mode : Mode) (mark : Mark) → 2 ≤ length (string mode mark)
+string-two mode mark = rw (string-length mode mark Open) (two mode)
+  where
+    two : (mode : Mode) → 2 ≤ length (string mode Open)
+    two Fm = omega arith
+    two Mfm = omega arith
+
 -- The kind that a string spells, by its last byte.
 abbrev lastOf : List ℕ → ℕ
 lastOf bs = getD bs (length bs - 1) 0
@@ -124,12 +136,15 @@ kind-told Mfm Data = refl
 kind-told Mfm Control = refl
 kind-told Mfm Open = refl
 
--- No two marks stand at one place.
-pub one-mark : (mode : Mode) (c : ℕ → ℕ) (n p : ℕ) (k l : Mark) → stands mode c n k p ≡ true → stands mode c n l p ≡ true → k ≡ l
-one-mark mode c n p k l e f =
+-- No two marks are spelled, and so none stand, at one place.
+pub one-string : (mode : Mode) (c : ℕ → ℕ) (p : ℕ) (k l : Mark) → Stand c p (string mode k) → Stand c p (string mode l) → k ≡ l
+one-string mode c p k l e f =
     sym (kind-told mode k)
-    ∙ ap (kindOf mode) (stand-one c p (string mode k) (string mode l) (string-length mode k l) (stands-bytes mode c n k p e) (stands-bytes mode c n l p f))
+    ∙ ap (kindOf mode) (stand-one c p (string mode k) (string mode l) (string-length mode k l) e f)
     ∙ kind-told mode l
+
+pub one-mark : (mode : Mode) (c : ℕ → ℕ) (n p : ℕ) (k l : Mark) → stands mode c n k p ≡ true → stands mode c n l p ≡ true → k ≡ l
+one-mark mode c n p k l e f = one-string mode c p k l (stands-bytes mode c n k p e) (stands-bytes mode c n l p f)
 
 -- The data cells of a mark hold the bytes that the EDC covers.
 abbrev dataBytes : Mode → Mark → List ℕ

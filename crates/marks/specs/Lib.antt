@@ -1,3 +1,4 @@
 pub mod Marks
 pub mod Search
 pub mod Outcomes
+pub mod Aids

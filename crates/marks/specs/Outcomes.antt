@@ -7,7 +7,7 @@ use lib.ListN.{length}
 use Rattle.cells.specs.Cells.{cell}
 use Rattle.cells.specs.declared.Mode.{Mode}
 use Rattle.marks.specs.Marks.{stands, registerAfter}
-use Rattle.marks.specs.Search.{firstMark}
+use Rattle.marks.specs.Search.{standing, firstMark}
 use Rattle.marks.specs.declared.Mark.{Mark}
 use Rattle.marks.specs.declared.Kinds.{Kinds}
 use Rattle.marks.specs.declared.Found.{Found}
@@ -23,6 +23,10 @@ TellsStanding mode mark image place answer = answer ≡ stands mode (cell image)
 -- `register_after` answers the register of the EDC once the mark has entered it.
 abbrev pub IsRegisterAfter : Mode → Mark → ℕ → Type 0
 IsRegisterAfter mode mark answer = answer ≡ registerAfter mode mark
+
+-- `mark_at` answers which mark of the kinds a byte of the image begins, with its place, or that none does.
+abbrev pub IsMarkAt : Mode → Kinds → List ℕ → (byte : ℕ) → Found → Type 0
+IsMarkAt mode kinds image byte answer = answer ≡ standing mode (cell image) (8 * length image) kinds (8 * byte)
 
 -- `find` answers the first mark of the kinds from one cell of the image up to another, with its place, or that there is none.
 abbrev pub IsFirstMark : Mode → Kinds → List ℕ → ℕ → ℕ → Found → Type 0

@@ -1,9 +1,7 @@
 -- The search for the first mark of given kinds. There is one notion of searching, `find`: the first of a number of places at which a
 -- test holds. The index mark is never looked for.
 use mathlib.Core.Bool.{Bool, true, false, _&&_}
-use mathlib.Core.Path.{_≡_}
-use Prim.Native.Nat.{ℕ, zero, suc, _+_, _-_, _*_, _/_, _%_, _^_, _<_}
-use Rattle.cells.specs.Cells.{octet}
+use Prim.Native.Nat.{ℕ, zero, suc, _-_}
 use Rattle.cells.specs.declared.Mode.{Mode}
 use Rattle.marks.specs.Marks.{stands}
 use Rattle.marks.specs.declared.Mark.{Mark}
@@ -66,10 +64,3 @@ module _ (mode : Mode) (c : ℕ → ℕ) (n : ℕ) (kinds : Kinds) where
   -- The first mark of the kinds that begins at a cell from `from` up to and without `to`, and its place.
   unfoldable pub firstMark : ℕ → ℕ → Found
   firstMark from to = named (find some (to - from) from)
-
--- What the search knows of a place from the image byte behind the place's own: where bit 7 - p % 8 of r is 0, no mark that can be looked
--- for stands at p. (An aid of the search; no promise rests on it.)
-abbrev pub Rules : Mode → ℕ → ℕ → Type 0
-Rules mode byte r =
-    (c : ℕ → ℕ) → ((i : ℕ) → c i < 2) → (n p : ℕ) (kinds : Kinds) → octet c (8 * (p / 8 + 1)) ≡ byte → r / 2 ^ (7 - p % 8) % 2 ≡ 0
-    → standing mode c n kinds p ≡ Nothing

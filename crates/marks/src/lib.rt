@@ -1,13 +1,14 @@
 // The marks of a track: fixed strings of image bytes, compared at any cell, and the search for the first of given kinds.
 use cells::Mode;
 ghost use mathlib.Core.Path.{_≡_};
-ghost use mathlib.Core.Bool.{true, false};
-ghost use Prim.Native.Nat.{ℕ, _+_, _-_, _*_, _≤_, _<_, _/_, _%_, min};
-ghost use lib.ListN.{length, getD};
+ghost use Prim.Native.Nat.{_+_, _*_, _≤_};
+ghost use lib.ListN.{length};
 ghost use Rattle.cells.specs.Cells.{cell};
-ghost use Rattle.marks.specs.Marks.{spells, lies, stands};
-ghost use Rattle.marks.specs.Search.{among, choose, isFound, sought, standing, firstMark, Rules};
-ghost use Rattle.marks.specs.Outcomes.{Housed, TellsStanding, IsRegisterAfter, IsFirstMark};
+ghost use Rattle.marks.specs.Marks.{spells, lies};
+ghost use Rattle.marks.specs.Outcomes.{Housed, TellsStanding, IsRegisterAfter, IsMarkAt, IsFirstMark};
+
+mod places;
+mod tables;
 
 // The marks: FC, FE, FB, F8, and the house mark F9 of a rewrite under way.
 pub enum Mark {
@@ -127,158 +128,20 @@ pub fn register_after(mode: Mode, mark: Mark) -> u16
     }
 }
 
-// For each image byte, in which cells of the byte before it a mark that has this byte inside may begin: the first cell is the highest
-// bit. Every mark but the index mark is counted, which is not looked for.
-const BEGINS_FM: [u8; 256] = *b"\x00\x00\x00\x00\x00\x00\x00\x00\x00\x00\x00\x00\x00\x00\x00\x00\
-    \x00\x00\x00\x00\x00\x00\x00\x00\x00\x00\x00\x00\x00\x00\x00\x00\
-    \x00\x00\x00\x00\x00\x00\x00\x00\x00\x00\x00\x00\x00\x00\x00\x00\
-    \x00\x00\x00\x00\x00\x00\x00\x00\x00\x00\x00\x00\x00\x00\x00\x00\
-    \x00\x00\x00\x00\x00\x00\x00\x00\x00\x00\x00\x00\x00\x00\x00\x00\
-    \x00\x00\x00\x00\x00\x00\x08\x08\x00\x00\x20\x20\x00\x00\x00\x20\
-    \x00\x00\x00\x00\x00\x00\x00\x00\x00\x00\x80\x80\x00\x00\x00\x80\
-    \x00\x00\x00\x00\x00\x00\x00\x00\x00\x00\x00\x00\x00\x00\x80\x00\
-    \x00\x00\x00\x00\x00\x00\x00\x00\x00\x00\x00\x00\x00\x00\x00\x00\
-    \x00\x00\x00\x00\x00\x00\x00\x00\x00\x00\x00\x00\x00\x00\x00\x00\
-    \x00\x00\x00\x00\x00\x00\x00\x00\x00\x00\x00\x04\x00\x10\x00\x10\
-    \x00\x00\x00\x00\x00\x40\x00\x40\x00\x00\x00\x00\x00\x00\x00\x40\
-    \x00\x00\x00\x00\x00\x00\x00\x00\x00\x00\x00\x00\x00\x00\x00\x00\
-    \x00\x00\x00\x00\x00\x02\x00\x00\x00\x00\x00\x00\x00\x00\x00\x00\
-    \x00\x00\x00\x00\x00\x00\x00\x00\x00\x00\x01\x00\x00\x00\x00\x00\
-    \x00\x00\x00\x00\x00\x00\x00\x00\x00\x00\x00\x00\x00\x00\x00\x00";
-
-const BEGINS_MFM: [u8; 256] = *b"\x00\x00\x00\x00\x00\x00\x00\x00\x00\x00\x00\x00\x00\x00\x00\x00\
-    \x00\x00\x02\x00\x00\x00\x00\x00\x00\x00\x00\x00\x00\x00\x00\x00\
-    \x00\x00\x20\x00\x04\x00\x00\x00\x00\x00\x00\x00\x00\x00\x00\x00\
-    \x00\x00\x00\x00\x00\x00\x00\x00\x00\x00\x00\x00\x00\x00\x00\x00\
-    \x00\x00\x00\x00\x40\x00\x00\x00\x08\x00\x00\x00\x00\x00\x00\x00\
-    \x00\x00\x00\x00\x00\x00\x00\x00\x00\x00\x00\x00\x00\x00\x00\x00\
-    \x00\x00\x00\x00\x00\x00\x00\x00\x00\x00\x00\x00\x00\x00\x00\x00\
-    \x00\x00\x00\x00\x00\x00\x00\x00\x00\x00\x00\x00\x00\x00\x00\x00\
-    \x00\x00\x00\x00\x00\x00\x00\x00\x00\x81\x00\x00\x00\x00\x00\x00\
-    \x00\x10\x00\x00\x00\x00\x00\x00\x00\x00\x00\x00\x00\x00\x00\x00\
-    \x00\x00\x00\x00\x00\x00\x00\x00\x00\x00\x00\x00\x00\x00\x00\x00\
-    \x00\x00\x00\x00\x00\x00\x00\x00\x00\x00\x00\x00\x00\x00\x00\x00\
-    \x00\x00\x00\x00\x00\x00\x00\x00\x00\x00\x00\x00\x00\x00\x00\x00\
-    \x00\x00\x00\x00\x00\x00\x00\x00\x00\x00\x00\x00\x00\x00\x00\x00\
-    \x00\x00\x00\x00\x00\x00\x00\x00\x00\x00\x00\x00\x00\x00\x00\x00\
-    \x00\x00\x00\x00\x00\x00\x00\x00\x00\x00\x00\x00\x00\x00\x00\x00";
-
-// Whether the mark is of the kinds.
-fn is_among(kinds: Kinds, mark: Mark) -> bool
-    ensures { λ r. ⌜ r ≡ among kinds mark ⌝ }
-{
-    match mark {
-        Mark::Index => false,
-        Mark::Identifier => kinds.identifier,
-        Mark::Data => kinds.block,
-        Mark::Control => kinds.block,
-        Mark::Open => kinds.block,
-    }
-}
-
-// Whether the mark is of the kinds and stands at `place`.
-fn is_sought(mode: Mode, kinds: Kinds, mark: Mark, image: &[u8], place: usize) -> bool
+// The mark of the kinds that the byte `at` begins, if one does. This lays out no table, as a search does.
+pub fn mark_at(mode: Mode, kinds: Kinds, image: &[u8], at: usize) -> Found
     requires { ⌜ Housed (now image) ⌝ }
-    ensures { λ r. ⌜ r ≡ sought mode (cell (now (image .entry))) (8 * length (now (image .entry))) kinds place mark ⌝ }
+    ensures { λ r. ⌜ IsMarkAt mode kinds (now (image .entry)) at r ⌝ }
 {
-    if is_among(kinds, mark) {
-        return stands(mode, mark, image, place);
+    if image.len() < at {
+        return Found::Nothing;
     }
-    false
-}
-
-// The only mark that can stand at `place`, by its last byte. The index mark, which is not looked for, says that none can.
-fn told(mode: Mode, image: &[u8], place: usize) -> Mark
-    requires { ⌜ place < 4294967296 ⌝ }
-    ensures { λ r. ⌜ ((kinds : Kinds) (mark : Mark) → sought mode (cell (now (image .entry))) (8 * length (now (image .entry))) kinds place mark ≡ true → r ≡ mark) ⌝ }
-{
-    match mode {
-        Mode::Fm => match cells::octet(image, place + 8) {
-            0x7E => Mark::Identifier,
-            0x6F => Mark::Data,
-            0x6A => Mark::Control,
-            0x6B => Mark::Open,
-            _ => Mark::Index,
-        },
-        Mode::Mfm => match cells::octet(image, place + 56) {
-            0x54 => Mark::Identifier,
-            0x45 => Mark::Data,
-            0x4A => Mark::Control,
-            0x49 => Mark::Open,
-            _ => Mark::Index,
-        },
+    if image.len() - at < places::width(mode) {
+        return Found::Nothing;
     }
-}
-
-// Which mark of the kinds stands at `place`. Its last byte tells the only one that can.
-fn standing(mode: Mode, kinds: Kinds, image: &[u8], place: usize) -> Found
-    requires { ⌜ Housed (now image) × (place < 4294967296) ⌝ }
-    ensures { λ r. ⌜ r ≡ standing mode (cell (now (image .entry))) (8 * length (now (image .entry))) kinds place ⌝ }
-{
-    let mark = told(mode, image, place);
-    if is_sought(mode, kinds, mark, image, place) {
-        return Found::At(place, mark);
-    }
-    Found::Nothing
-}
-
-// The first mark of the kinds that begins in the byte of `from`, at a cell from `from` up to and without `to`; where there is none, the
-// search goes on at the next byte. Only the cells that `begins` has are looked at.
-fn tried(begins: u8, mode: Mode, kinds: Kinds, image: &[u8], from: usize, to: usize) -> Found
-    requires { ⌜ Housed (now image) × (from / 8 + 1 < length (now image)) × Rules mode (getD (now image) (from / 8 + 1) 0) begins ⌝ }
-    ensures { λ r. ⌜ firstMark mode (cell (now (image .entry))) (8 * length (now (image .entry))) kinds from to ≡ choose (isFound r) r (firstMark mode (cell (now (image .entry))) (8 * length (now (image .entry))) kinds (8 * (from / 8 + 1)) to) ⌝ }
-{
-    let mut left = ((begins as u32) << (from % 8)) % 256;
-    let mut place = from;
-    while left != 0 {
-        if 128 <= left {
-            if to <= place {
-                return Found::Nothing;
-            }
-            let found = standing(mode, kinds, image, place);
-            if let Found::At(_, _) = found {
-                return found;
-            }
-        }
-        left = left % 128 * 2;
-        place += 1;
-    }
-    Found::Nothing
-}
-
-// The lesser of two numbers.
-fn lesser(a: usize, b: usize) -> usize
-    ensures { λ r. ⌜ r ≡ min a b ⌝ }
-{
-    if a < b { a } else { b }
-}
-
-// The search itself, over the table of its mode. One look at the byte behind a cell's own rules out eight places at once.
-fn search(
-    begins: &[u8; 256],
-    mode: Mode,
-    kinds: Kinds,
-    image: &[u8],
-    from: usize,
-    to: usize,
-) -> Found
-    requires { ⌜ Housed (now image) × ((byte : ℕ) → byte < 256 → Rules mode byte (getD (now begins) byte 0)) ⌝ }
-    ensures { λ r. ⌜ IsFirstMark mode kinds (now (image .entry)) from to r ⌝ }
-{
-    // no place before `to` lies behind byte to / 8, and the byte behind that one is the last to be looked at
-    let end = lesser(image.len(), to / 8 + 2);
-    let mut place = from;
-    let mut next = from / 8 + 1;
-    while next < end {
-        let cells = begins[image[next] as usize];
-        if cells != 0 {
-            let found = tried(cells, mode, kinds, image, place, to);
-            if let Found::At(_, _) = found {
-                return found;
-            }
-        }
-        place = 8 * next;
-        next += 1;
+    let mark = places::begun(mode, image, at);
+    if places::is_among(kinds, mark) {
+        return Found::At(8 * at, mark);
     }
     Found::Nothing
 }
@@ -289,7 +152,12 @@ pub fn find(mode: Mode, kinds: Kinds, image: &[u8], from: usize, to: usize) -> F
     ensures { λ r. ⌜ IsFirstMark mode kinds (now (image .entry)) from to r ⌝ }
 {
     match mode {
-        Mode::Fm => search(&BEGINS_FM, mode, kinds, image, from, to),
-        Mode::Mfm => search(&BEGINS_MFM, mode, kinds, image, from, to),
+        Mode::Fm => {
+            if kinds.block {
+                return tables::first_fm(kinds, image, from, to);
+            }
+            tables::first_identifier_fm(kinds, image, from, to)
+        }
+        Mode::Mfm => tables::first_mfm(kinds, image, from, to),
     }
 }

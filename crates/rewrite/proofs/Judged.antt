@@ -2,13 +2,12 @@
 use mathlib.Core.Path.{_≡_, refl, sym, ap, _∙_}
 use mathlib.Core.Bool.{Bool, true, false, not, _&&_, and-eq-true-iff}
 use mathlib.Core.List.{List, [], _∷_}
-use Prim.Native.Nat.{ℕ, _+_, _*_, _%_, _≤_, _<_}
+use Prim.Native.Nat.{ℕ, _+_, _*_, _/_, _%_, _≤_, _<_}
 use native.Mathlib.Omega.{arith}
 use borrow.Author.Tests.{eq-eqb, ne-eqb, eqb-true, le-leb, lt-leb, leb-true, leb-false, ltb-false, not-false}
 use lib.Dec.{eqb, leb}
 use lib.ListN.{length, getD}
 use Rattle.cells.specs.Cells.{cell}
-use Rattle.cells.specs.declared.Mode.{Mode}
 use Rattle.layouts.specs.Layouts.{highest, layoutOf}
 use Rattle.layouts.specs.Refusals.{Test, refusal, taken, longestImage, dataMark, controlMark, imageTest, numberTest, areaTest, markTest}
 use Rattle.layouts.specs.declared.Layout.{Layout}
@@ -20,11 +19,8 @@ use Rattle.layouts.specs.declared.Chosen.{Chosen}
 use Rattle.layouts.specs.declared.Chosen.the-variants as chosen
 use Rattle.layouts.proofs.Refusals.{first-refuses, first-passes, refusal-append-passed, refusal-append-refused, refusal-passed, taken-passed, taken-refused}
 use Rattle.marks.specs.Marks.{markByte, markOf}
-use Rattle.marks.specs.Search.{isFound, standing, some, firstMark}
+use Rattle.marks.specs.Search.{isFound, standing, some}
 use Rattle.marks.specs.declared.Found.{Found}
-use Rattle.marks.specs.declared.Found.the-variants.{At, Nothing}
-use Rattle.marks.specs.declared.Kinds.{Kinds}
-use Rattle.marks.proofs.Searching.{some-none, first-skip, first-end, first-found}
 use Rattle.read.specs.Walk.{blockMarks, blockCells}
 use Rattle.read.proofs.Passing.{or-right}
 use Rattle.rewrite.specs.Stores.{stored, none, blockEnd, storeCount}
@@ -38,18 +34,6 @@ use Rattle.rewrite.proofs.Listed.{stores-count, kind, inside}
 
 -- ---- a mark at a place
 
--- A search of one cell finds what stands there.
-first-here : (mode : Mode) (c : ℕ → ℕ) (n : ℕ) (kinds : Kinds) (p : ℕ) → firstMark mode c n kinds p (p + 1) ≡ standing mode c n kinds p
-first-here mode c n kinds p = go (standing mode c n kinds p) refl
-  where
-    go : (f : Found) → standing mode c n kinds p ≡ f → firstMark mode c n kinds p (p + 1) ≡ standing mode c n kinds p
-    go (At q mark) e = first-found mode c n kinds p (p + 1) q mark (omega arith) refl e
-    go Nothing e =
-        first-skip mode c n kinds p (p + 1) (p + 1) (omega arith)
-        (λ q a b. let s : q ≡ p = omega arith in rw s (some-none mode c n kinds p e))
-        ∙ first-end mode c n kinds (p + 1) (p + 1) (omega arith)
-        ∙ sym e
-
 module _ (l : Layout) (image : List ℕ) (place : ℕ) where
   -- Off a byte boundary, or past the end.
   pub off-boundary : (place % 8 ≡ 0 → ⊥) → false ≡ holdsBlock l image place
@@ -61,13 +45,13 @@ module _ (l : Layout) (image : List ℕ) (place : ℕ) where
     unfolding holdsBlock
     past-end h = rw (eq-eqb (place % 8) 0 boundary, lt-leb (place + blockCells l) (8 * length image) (rw (← known) h))
 
-    -- Within the image the search of one cell decides.
-    pub by-search : place + cells ≤ 8 * length image → (f : Found)
-        → f ≡ firstMark (l .mode) (cell image) (8 * length image) blockMarks place (place + 1) → isFound f ≡ holdsBlock l image place
+    -- Within the image the mark that its byte begins decides.
+    pub by-mark : place + cells ≤ 8 * length image → (f : Found)
+        → f ≡ standing (l .mode) (cell image) (8 * length image) blockMarks (8 * (place / 8)) → isFound f ≡ holdsBlock l image place
     unfolding holdsBlock some
-    by-search h f e =
-        rw (eq-eqb (place % 8) 0 boundary, le-leb (place + blockCells l) (8 * length image) (rw (← known) h))
-        (ap isFound (e ∙ first-here (l .mode) (cell image) (8 * length image) blockMarks place))
+    by-mark h f e =
+        let whole : 8 * (place / 8) ≡ place = omega arith in
+        rw (eq-eqb (place % 8) 0 boundary, le-leb (place + blockCells l) (8 * length image) (rw (← known) h)) (ap isFound (rw whole at e))
 
   -- What it says where it holds.
   pub holds-known : holdsBlock l image place ≡ true → (place % 8 ≡ 0) × (place + blockCells l ≤ 8 * length image)

@@ -31,7 +31,7 @@ fn holds_block(layout: Layout, image: &[u8], place: usize) -> bool
         block: true,
     };
     let mode = layout.mode;
-    let Found::At(_, _) = marks::find(mode, kinds, image, place, place + 1) else {
+    let Found::At(_, _) = marks::mark_at(mode, kinds, image, place / 8) else {
         return false;
     };
     true

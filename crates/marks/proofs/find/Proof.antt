@@ -1,7 +1,6 @@
--- `find` meets its contract: the tables that it lends compute to the marks' own bytes.
+-- `find` meets its contract: each arm knows the mode, and where no mark of a block is looked for, the table of the identifier mark will do.
 use Rattle.cells.specs.declared.Mode.the-variants.{Fm, Mfm}
-use Rattle.cells.proofs.Table.{table-at}
-use Rattle.marks.proofs.Begins.{begins, rules-by}
+use Rattle.marks.proofs.Searching.{first-by}
 use borrow.Author.Needs.{needs}
 use Rattle.marks.proofs.find.Statement.{statement}
 use Rattle.marks.proofs.find.Tie as tie
@@ -9,21 +8,36 @@ use Rattle.marks.proofs.find.Tie as tie
 enum-told : tie.Need-enum-told
 enum-told c = search needs
 
-search-requires : tie.Need-search-requires
-search-requires c κs = (search needs, λ byte h. rules-by Fm byte _ (cc) (table-at (begins Fm) 256 byte h))
+first-fm-requires : tie.Need-first-fm-requires
+first-fm-requires c κs = search needs
+
+returns : tie.Need-returns
+returns c = first-by Fm _ _ _ _ _ (cc) (c .first-fm .ensures)
+
+first-identifier-fm-requires : tie.Need-first-identifier-fm-requires
+first-identifier-fm-requires c κs = search needs
 
 enum-told-2 : tie.Need-enum-told-2
 enum-told-2 c = search needs
 
-search-requires-2 : tie.Need-search-requires-2
-search-requires-2 c κs = (search needs, λ byte h. rules-by Mfm byte _ (cc) (table-at (begins Mfm) 256 byte h))
-
-returns : tie.Need-returns
-returns c = search needs
+first-mfm-requires : tie.Need-first-mfm-requires
+first-mfm-requires c κs = search needs
 
 returns-2 : tie.Need-returns-2
-returns-2 c = search needs
+returns-2 c = first-by Fm _ _ _ _ _ (cc) (c .first-identifier-fm .ensures)
+
+returns-3 : tie.Need-returns-3
+returns-3 c = first-by Mfm _ _ _ _ _ (cc) (c .first-mfm .ensures)
 
 pub find-spec : {M : Type 1} → statement M
 find-spec =
-    tie.close (tie.spec enum-told search-requires enum-told-2 search-requires-2 returns returns-2)
+    tie.close
+    (tie.spec
+    enum-told
+    first-fm-requires
+    returns
+    first-identifier-fm-requires
+    enum-told-2
+    first-mfm-requires
+    returns-2
+    returns-3)

@@ -63,7 +63,7 @@ module _ (mode : Mode) (c : ℕ → ℕ) (n : ℕ) where
     standing-here : (k : Mark) (p : ℕ) → among kinds k ≡ true → stands mode c n k p ≡ true → standing mode c n kinds p ≡ At p k
     unfolding sought
     standing-here k p a s =
-        standing-told c n p mode kinds k (λ other t. one-mark mode c n p k other s (right (among kinds other) _ t))
+        standing-told c p mode n kinds k (λ other t. one-mark mode c n p k other s (right (among kinds other) _ t))
         ∙ rw (a, s)
       where
         right : (x y : Bool) → (x && y) ≡ true → y ≡ true

@@ -41,7 +41,7 @@ module _ (mode : Mode) (c : ℕ → ℕ) (n : ℕ) (kinds : Kinds) where
   module _ (k : Mark) (w : ℕ) (there : stands mode c n k w ≡ true) where
     pub found-there : standing mode c n kinds w ≡ choose (among kinds k) (At w k) Nothing
     unfolding sought
-    found-there = standing-told c n w mode kinds k one ∙ rw there (by (among kinds k))
+    found-there = standing-told c w mode n kinds k one ∙ rw there (by (among kinds k))
       where
         one : (mark : Mark) → sought mode c n kinds w mark ≡ true → k ≡ mark
         one mark s = one-mark mode c n w k mark there (and-eq-true-iff (among kinds mark) (stands mode c n mark w) .0 s .1)

@@ -1,8 +1,8 @@
--- `holds_block` meets its contract: the boundary, the end, and a search of one cell.
+-- `holds_block` meets its contract: the boundary, the end, and the mark that stands there.
 use mathlib.Core.Path.{sym, ap, _∙_}
 use native.Mathlib.Omega.{arith}
 use Rattle.marks.specs.Search.{isFound}
-use Rattle.rewrite.proofs.Judged.{off-boundary, past-end, by-search}
+use Rattle.rewrite.proofs.Judged.{off-boundary, past-end, by-mark}
 use Rattle.rewrite.proofs.Counted.{cells-most}
 use borrow.Author.Needs.{needs}
 use Rattle.rewrite.proofs.tests.holds_block.Statement.{statement}
@@ -23,11 +23,8 @@ add-if2 c = omega (arith, cells-most (c .before .before .before .args .layout), 
 returns-2 : tie.Need-returns-2
 returns-2 c = past-end _ _ _ (c .before .before .if1 .left) _ (c .before .block-cells .ensures) (c .if2 .taken)
 
-add-find : tie.Need-add-find
-add-find c = search needs
-
-find-requires : tie.Need-find-requires
-find-requires c κs = search needs
+mark-at-requires : tie.Need-mark-at-requires
+mark-at-requires c κs = search needs
 
 enum-told : tie.Need-enum-told
 enum-told c = search needs
@@ -39,15 +36,15 @@ returns-3 : tie.Need-returns-3
 returns-3 c =
     let f = c .before .before in
     let b = f .before .before in
-    sym (ap isFound (c .enum-told2 .given .1)) ∙ by-search _ _ _ (b .before .if1 .left) _ (b .block-cells .ensures) (f .before .if2 .left)
-    _ (f .find .ensures)
+    sym (ap isFound (c .enum-told2 .given .1)) ∙ by-mark _ _ _ (b .before .if1 .left) _ (b .block-cells .ensures) (f .before .if2 .left)
+    _ (f .mark-at .ensures)
 
 returns-4 : tie.Need-returns-4
 returns-4 c =
     let f = c .before .before in
     let b = f .before .before in
-    sym (ap isFound (c .enum-told .given .1)) ∙ by-search _ _ _ (b .before .if1 .left) _ (b .block-cells .ensures) (f .before .if2 .left)
-    _ (f .find .ensures)
+    sym (ap isFound (c .enum-told .given .1)) ∙ by-mark _ _ _ (b .before .if1 .left) _ (b .block-cells .ensures) (f .before .if2 .left)
+    _ (f .mark-at .ensures)
 
 pub holds-block-spec : {M : Type 1} → statement M
 holds-block-spec =
@@ -58,8 +55,7 @@ holds-block-spec =
     block-cells-requires
     add-if2
     returns-2
-    add-find
-    find-requires
+    mark-at-requires
     enum-told
     enum-told-2
     returns-3
