@@ -32,11 +32,18 @@ abbrev pub left : Checked → List ℕ → List ℕ → List ℕ
 left Passed before after = after
 left (Refused f) before after = before
 
--- `format` refuses by the first test that applies, and then leaves the image as it was; else it leaves exactly the cells of the track
--- with its sectors in natural order.
-pub record Formats (layout cylinder side : ℕ) (contents marks before : List ℕ) (answer : Formatted) (after : List ℕ) : Type 0 where
-  pub answers : answer ≡ answered (refusal (formatTests layout cylinder side contents marks (length before)))
-  pub leaves :
-      after
-      ≡ left (refusal (formatTests layout cylinder side contents marks (length before))) before
+module _ (layout cylinder side : ℕ) (contents marks before : List ℕ) where
+  -- What `format` answers: the refusal of the first test that applies, or that the track is written.
+  abbrev pub formatAnswer : Formatted
+  formatAnswer = answered (refusal (formatTests layout cylinder side contents marks (length before)))
+
+  -- What it leaves in the image: exactly the cells of the track with its sectors in natural order.
+  abbrev pub formatImage : List ℕ
+  formatImage =
+      left (refusal (formatTests layout cylinder side contents marks (length before))) before
       (formatted (layoutOf layout) cylinder side contents marks (numbers (layoutOf layout .sectors) 1))
+
+-- `format` refuses by the first test that applies, and then leaves the image as it was; else it leaves the track.
+pub record Formats (layout cylinder side : ℕ) (contents marks before : List ℕ) (answer : Formatted) (after : List ℕ) : Type 0 where
+  pub answers : answer ≡ formatAnswer layout cylinder side contents marks before
+  pub leaves : after ≡ formatImage layout cylinder side contents marks before

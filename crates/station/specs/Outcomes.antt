@@ -9,11 +9,9 @@ use Rattle.cells.specs.Cells.{cell, dataByte}
 use Rattle.cells.specs.Coding.{high, low}
 use Rattle.cells.specs.declared.Mode.{Mode}
 use Rattle.edc.specs.Register.{edcOf}
-use Rattle.format.specs.Order.{formatted}
-use Rattle.format.specs.Outcomes.{answered, left, formattedNumber}
-use Rattle.format.specs.Refusals.{formatTests}
+use Rattle.format.specs.Outcomes.{formattedNumber, formatAnswer, formatImage}
 use Rattle.layouts.specs.Layouts.{layoutOf, mostSectors, numbers}
-use Rattle.layouts.specs.Refusals.{refusal, refusalNumber}
+use Rattle.layouts.specs.Refusals.{refusalNumber}
 use Rattle.layouts.specs.declared.Checked.{Checked}
 use Rattle.layouts.specs.declared.Checked.the-variants.{Passed, Refused}
 use Rattle.read.specs.Answers.{answerNumber}
@@ -44,11 +42,8 @@ GivesDataByte image place answer = answer ≡ dataByte (cell image) place
 -- `station_format` answers 0, and leaves the track in the image; or the number of the first refusal that applies, and leaves the image as
 -- it was.
 pub record GivesFormat (layout cylinder side : ℕ) (contents marks before : List ℕ) (answer : ℕ) (after : List ℕ) : Type 0 where
-  pub answers : answer ≡ formattedNumber (answered (refusal (formatTests layout cylinder side contents marks (length before))))
-  pub leaves :
-      after
-      ≡ left (refusal (formatTests layout cylinder side contents marks (length before))) before
-      (formatted (layoutOf layout) cylinder side contents marks (numbers (layoutOf layout .sectors) 1))
+  pub answers : answer ≡ formattedNumber (formatAnswer layout cylinder side contents marks before)
+  pub leaves : after ≡ formatImage layout cylinder side contents marks before
 
 -- The number of a verdict: 0, or the refusal's (01, "Refused calls").
 abbrev pub verdictNumber : Checked → ℕ
