@@ -17,3 +17,4 @@ pub mod Running
 pub mod Rereading
 pub mod Surviving
 pub mod Demanded
+pub mod Useless

@@ -1,15 +1,22 @@
--- Demand 1, of the reader: the numbered refusals of the papers, when they apply and only then; a refused read leaves zeros; old contents of the
--- area never show.
-use mathlib.Core.List.{List, _∷_, _++_}
+-- Demand 1, of the reader: a refused read leaves zeros; old contents of the area never show; and what is picked of two passes is of one of them.
+use mathlib.Core.List.{List, []}
 use mathlib.Core.Path.{_≡_}
-use mathlib.Core.Bool.{true}
+use mathlib.Core.Bool.{true, false}
 use Prim.Native.Nat.{ℕ}
 use lib.ListN.{length, replicate}
-use Rattle.layouts.specs.Refusals.{Test, refusal}
-use Rattle.layouts.specs.declared.Checked.the-variants.{Passed, Refused}
+use Rattle.layouts.specs.Layouts.{layoutOf}
+use Rattle.layouts.specs.declared.Layout.{Layout}
+use Rattle.layouts.specs.declared.Checked.the-variants.{Refused}
 use Rattle.layouts.specs.declared.Refusal.{Refusal}
+use Rattle.read.specs.Answers.{answered}
 use Rattle.read.specs.Outcomes.{Reads}
+use Rattle.read.specs.Picks.{IsPicked, IsStretch, recordAt, slotIn}
 use Rattle.read.specs.declared.Reading.{Reading}
+use Rattle.read.specs.declared.Record.{Record}
+use Rattle.read.specs.declared.Records.{Records}
+use Rattle.read.specs.declared.Choice.{Choice}
+use Rattle.read.specs.declared.Choice.the-variants.{First, Second, Neither}
+use Rattle.read.specs.declared.Choice.the-variants as pick
 
 -- Nothing old shows: two reads of one image into areas of one length have the same answer and leave the same, whatever the areas held before.
 abbrev pub NothingOldShows : Type 0
@@ -28,17 +35,22 @@ RefusedLeavesZeros =
     → answer .verdict ≡ Refused f
     → after ≡ replicate given 0
 
--- A list of tests gives the refusal f exactly if some test gives it, applies, and none before it does.
-pub record FirstOf (tests : List Test) (f : Refusal) : Type 0 where
-  pub before : List Test
-  pub test : Test
-  pub after : List Test
-  pub parts : tests ≡ before ++ test ∷ after
-  pub none : refusal before ≡ Passed
-  pub applies : test .applies ≡ true
-  pub gives : test .gives ≡ f
+-- What is picked, and the part handed back, of a sector whose records in both passes are these: the slot of the first area if that pass answered, else
+-- of the second if that one did, else nothing, as where the call is refused.
+pub record OfOnePass (l : Layout) (sector : ℕ) (first second : List ℕ) (one two : Record) (answer : Choice) (part : List ℕ) : Type 0 where
+  pub ofFirst : (r : Record) → answer ≡ First r → (r ≡ one) × (answered (one .answer) ≡ true) × (part ≡ slotIn l sector first)
+  pub ofSecond :
+      (r : Record) → answer ≡ Second r
+      → (r ≡ two) × (answered (one .answer) ≡ false) × (answered (two .answer) ≡ true) × (part ≡ slotIn l sector second)
+  pub ofNeither :
+      (r : Record) → answer ≡ Neither r
+      → (r ≡ one) × (answered (one .answer) ≡ false) × (answered (two .answer) ≡ false) × (part ≡ [])
+  pub ofRefused : (f : Refusal) → answer ≡ pick.Refused f → part ≡ []
 
--- Of every entry point, since each is refused by its list of tests: the number is n if and only if the papers' condition for n holds and no earlier
--- one does.
-abbrev pub RefusedExactlyBy : Type 0
-RefusedExactlyBy = (tests : List Test) (f : Refusal) → (refusal tests ≡ Refused f → FirstOf tests f) × (FirstOf tests f → refusal tests ≡ Refused f)
+-- The part that is picked is the slot of one area, the one that `picked` names: never a sector put together from both.
+abbrev pub PartOfOnePass : Type 0
+PartOfOnePass =
+    (layout sector : ℕ) (first : List ℕ) (one : Records) (second : List ℕ) (two : Records) (answer : Choice) (part : List ℕ)
+    → IsPicked layout sector first one second two answer
+    → IsStretch layout sector first one second two part
+    → OfOnePass (layoutOf layout) sector first second (recordAt one sector) (recordAt two sector) answer part

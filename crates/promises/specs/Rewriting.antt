@@ -165,3 +165,15 @@ pub record Demand3 : Type 0 where
       → (j : ℕ) (held : Plan) (now : List ℕ) → j ≤ number layout image plan → Ran mark contents plan image j held now
       → (newMark : ℕ) (newContents : List ℕ) → Fit layout cylinder newMark newContents
       → StartsAgain layout cylinder side sector plan image now newMark newContents
+
+-- ---- a useless version
+
+-- A first step that makes all the stores, while later ones pretend: the contract of `step` does not allow it of an accepted request. (A step's
+-- code has one store, so that no wrong program of its shape does this, and no edit can stand for it.)
+abbrev pub NotAllAtOnce : Type 0
+NotAllAtOnce =
+    (layout cylinder side sector mark : ℕ) (contents image : List ℕ) (plan : Plan) (answer : Stepped)
+    → Requests layout cylinder side sector mark contents image (request.Planned plan)
+    → Bytes contents
+    → Steps plan mark contents image answer (after layout mark contents image plan (number layout image plan))
+    → ⊥
