@@ -1,6 +1,7 @@
 #!/bin/sh
 # usage: harness/run.sh [test WORDS.. | bench [--steps]]: the Rattle library from Rust, native on x86-64, emulated on Arm
 #        harness/run.sh vectors: writes vectors/ and samples/ anew, by the reference alone
+#        harness/run.sh peers make|compare FOLDER: for bin/peers
 # Exit status 77: the compiler that this machine lacks cannot be had; nothing was compared.
 set -eu
 here=$(cd "$(dirname "$0")" && pwd -P) name=station target=x86_64-unknown-linux-gnu
@@ -42,6 +43,7 @@ what=${1:-test} && [ $# -eq 0 ] || shift
 case $what in
 test) exec cargo test --offline --tests --target $target "$@" ;;
 bench) exec cargo run --offline --release --target $target --bin bench -- "$@" ;;
+peers) exec cargo run --offline --quiet --release --target $target --bin peers -- "$@" ;;
 vectors) exec cargo run --offline --release --target $target --bin vectors -- "$here/.." ;;
-*) echo "usage: $0 [test WORDS.. | bench [--steps] | vectors]" >&2; exit 2 ;;
+*) echo "usage: $0 [test WORDS.. | bench [--steps] | vectors | peers make|compare FOLDER]" >&2; exit 2 ;;
 esac
