@@ -43,14 +43,14 @@ pub fn flat(disk: &Disk, written: &[Written], theirs: &[u8]) -> Count {
 /// What comparing the peer's tracks gave.
 #[derive(Default)]
 pub struct Tracks {
-    /// Tracks that the library reads.
-    pub tracks: usize,
-    /// Sectors that it read with our mark and bytes.
+    /// Sectors of tracks that the library addresses: read with our mark and bytes.
     pub read: Count,
     /// Stretches from the (00)-bytes before the identifier to the end of the data EDC, cell for cell.
     pub stretches: Count,
     /// On tracks that the library does not address: from the (00)-bytes before the data mark on.
     pub blocks: Count,
+    /// Tracks that are ours from the index hole to the end of our image.
+    pub whole: Count,
 }
 
 /// The peer's cells, a track for each of ours. Where `has_own_address` its identifiers name the place on the disk, and
@@ -62,8 +62,8 @@ pub fn tracks(disk: &Disk, written: &[Written], cells: &[Vec<u8>], has_own_addre
         let (cylinder, side) = (ours.place.0 as u32, ours.place.1 as u32);
         let is_same = !has_own_address || of_track(disk.layout, cylinder, side).is_ok();
         if is_same {
-            sum.tracks += 1;
             read(ours, theirs, &mut sum.read);
+            sum.whole.add(theirs.starts_with(&unpacked(&ours.image)));
         }
         stretches(ours, theirs, is_same, &mut sum);
     }

@@ -12,14 +12,16 @@ pub struct Disk {
     pub format: &'static str,
     pub cylinders: usize,
     pub sides: usize,
+    /// Whether the peer lays such a disk's tracks with the standard's gaps, so that whole tracks are alike.
+    pub has_our_gaps: bool,
 }
 
 /// An mdos disk with two sides has sectors 27 to 52 on its second, so one side it is.
 pub const DISKS: [Disk; 4] = [
-    Disk { layout: 0, format: "mdos", cylinders: 77, sides: 1 },
-    Disk { layout: 1, format: "c8280", cylinders: 77, sides: 2 },
-    Disk { layout: 2, format: "pc", cylinders: 80, sides: 2 },
-    Disk { layout: 3, format: "pc98", cylinders: 77, sides: 2 },
+    Disk { layout: 0, format: "mdos", cylinders: 77, sides: 1, has_our_gaps: false },
+    Disk { layout: 1, format: "c8280", cylinders: 77, sides: 2, has_our_gaps: false },
+    Disk { layout: 2, format: "pc", cylinders: 80, sides: 2, has_our_gaps: true },
+    Disk { layout: 3, format: "pc98", cylinders: 77, sides: 2, has_our_gaps: false },
 ];
 
 /// The sectors' bytes in order: the flat image.
