@@ -1,6 +1,6 @@
 //! The disks that go to the peer: one for each layout, in the geometry of a flat image format that it knows.
 use harness::reference::layouts::{of_track, Layout, LAYOUTS};
-use harness::reference::marks::{CONTROL, DATA};
+use harness::reference::marks::{CONTROL, DATA, LETTER_D};
 use harness::rng::Rng;
 use harness::station;
 use harness::tracks::{Track, FM};
@@ -57,11 +57,15 @@ impl Disk {
         let track = addressed(self.layout, place);
         let mut data = rng.bytes(self.layout().area_bytes());
         let mut marks: Vec<u8> = (0..self.layout().sectors).map(|_| [DATA, CONTROL][rng.below(2)]).collect();
-        if track.cylinder == 0 {
-            marks.fill(DATA); // a control mark may stand there only before the letter D
-        }
         if self.format == "mdos" && place == (0, 0) {
             label(&mut data);
+            marks[..3].fill(DATA);
+        }
+        for (bytes, &mark) in data.chunks_exact_mut(self.layout().size).zip(&marks) {
+            // on cylinder 0 a control mark may stand only before the letter D
+            if track.cylinder == 0 && mark == CONTROL {
+                bytes[0] = LETTER_D;
+            }
         }
         Written::new(place, track, data, marks)
     }
