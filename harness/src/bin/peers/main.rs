@@ -63,7 +63,7 @@ fn compared(disk: &Disk, folder: &Path) -> Result<bool, Box<dyn Error>> {
     let cells = mfi::tracks(&file("imd.mfi")?, mode)?;
     is_equal &= told(&format!("{name}, its tracks from IMD"), &compare::tracks(disk, &written, &cells, false));
     if mode == Mode::Fm {
-        // in MFM the peer writes this container with cells of the wrong length
+        // in MFM the peer's files of this kind lack half of the cells
         let images = containers::hxcmfm_tracks(&file("flat.mfm")?)?;
         let cells: Vec<_> = images.iter().map(|image| compare::unpacked(image)).collect();
         is_equal &= told(&format!("{name}, its tracks in HXCMFM"), &compare::tracks(disk, &plain, &cells, true));
