@@ -1,6 +1,5 @@
 -- What the tests of a format choose: the layout of the number on its track, whose numbers then serve the writers.
-use mathlib.Core.Path.{_≡_, refl, sym, ap, _∙_, subst}
-use mathlib.Core.Bool.{Bool, true, false, _||_}
+use mathlib.Core.Path.{_≡_, sym, ap, _∙_, subst}
 use mathlib.Core.List.{List}
 use Prim.Native.Nat.{ℕ, _*_, _≤_}
 use native.Mathlib.Omega.{arith}
@@ -17,7 +16,7 @@ use Rattle.layouts.specs.declared.Checked.the-variants.{Passed, Refused}
 use Rattle.layouts.specs.declared.Chosen.{Chosen}
 use Rattle.layouts.specs.declared.Chosen.the-variants as chosen
 use Rattle.layouts.proofs.Layouts.{layout-known, adds}
-use Rattle.layouts.proofs.Refusals.{passed-both, refusal-passed, taken-passed, taken-refused, track-known}
+use Rattle.layouts.proofs.Refusals.{passed-both, or-left, refusal-passed, taken-passed, taken-refused, track-known}
 use Rattle.format.specs.Refusals.{fieldTests, formatTests}
 use Rattle.format.proofs.Parts.{Spaced, spaced}
 
@@ -54,10 +53,6 @@ module _ (layout cylinder side : ℕ) (r : Chosen) (of : r ≡ taken (layoutOf l
   taken-usable k e =
       let known = taken-passed _ _ _ (sym of ∙ e) in
       subst Usable (sym (known .1)) (usable layout (track-known layout cylinder side (known .0) .0))
-
-or-left : (a b : Bool) → (a || b) ≡ false → a ≡ false
-or-left true b e = e
-or-left false b e = refl
 
 -- What is known of a call that all tests pass: k is the layout that was chosen.
 pub record Accepted (layout cylinder side : ℕ) (contents marks : List ℕ) (image : ℕ) (k : Layout) : Type 0 where

@@ -140,11 +140,6 @@ unfolding width bytes
 width-bytes mode [] ss = omega arith
 width-bytes mode (x ∷ xs) ss = omega (arith, width-bytes mode xs ss)
 
--- Their image bytes.
-pub length-bytes : (mode : Mode) (a : ℕ) (xs : List ℕ) → length (image mode a (bytes xs [])) ≡ 2 * length xs
-unfolding width
-length-bytes mode a xs = rw (length-image, width-bytes) (omega arith)
-
 -- The EDC is two bytes.
 pub length-checked : (mode : Mode) (m : Mark) (xs : List ℕ) → length (checked mode m xs) ≡ length xs + 2
 unfolding checked

@@ -32,16 +32,6 @@ fn write_leader(layout: Layout, image: &mut [u8])
     write_run(mode, 0, gap, layout.index_gap, image, gap_at);
 }
 
-// The mark that a mark byte asks for.
-fn mark_of(byte: u8) -> Mark
-    ensures { λ r. ⌜ r ≡ markOf byte ⌝ }
-{
-    if byte == 0xF8 {
-        return Mark::Control;
-    }
-    Mark::Data
-}
-
 // The track bytes of a sector.
 fn sector_fields(layout: Layout) -> usize
     requires { ⌜ 2 * sectorFields layout ≤ 9223372036854775807 ⌝ }
@@ -87,7 +77,7 @@ pub(crate) fn write_track(
     while i < layout.sectors {
         let end = start + stretch;
         let to = from + size;
-        let mark = mark_of(marks[i]);
+        let mark = marks::mark_of(marks[i]);
         let number = (i + 1) as u8;
         write_sector(
             layout,

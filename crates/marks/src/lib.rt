@@ -5,7 +5,7 @@ ghost use Prim.Native.Nat.{_+_, _*_, _≤_};
 ghost use lib.ListN.{length};
 ghost use Rattle.cells.specs.Cells.{cell};
 ghost use Rattle.marks.specs.Marks.{spells, lies};
-ghost use Rattle.marks.specs.Outcomes.{Housed, TellsStanding, IsRegisterAfter, IsMarkAt, IsFirstMark};
+ghost use Rattle.marks.specs.Outcomes.{Housed, TellsStanding, IsRegisterAfter, IsMarkOf, IsMarkAt, IsFirstMark};
 
 mod places;
 mod tables;
@@ -126,6 +126,16 @@ pub fn register_after(mode: Mode, mark: Mark) -> u16
             Mark::Open => 0xC2D7,
         },
     }
+}
+
+// The mark that a mark byte asks for: F8 a control record, any other a data record.
+pub fn mark_of(byte: u8) -> Mark
+    ensures { λ r. ⌜ IsMarkOf byte r ⌝ }
+{
+    if byte == 0xF8 {
+        return Mark::Control;
+    }
+    Mark::Data
 }
 
 // The mark of the kinds that the byte `at` begins, if one does. This lays out no table, as a search does.

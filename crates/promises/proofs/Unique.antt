@@ -10,7 +10,7 @@ use Rattle.format.specs.declared.Formatted.{Formatted}
 use Rattle.layouts.specs.Outcomes.{IsLayout, IsGapByte, IsRefusalNumber, IsNumbered, IsOnTrack, IsForReading, IsImageLength, IsAreaLength, IsMarkByte, IsControlRecord, IsSectorNumber}
 use Rattle.layouts.specs.declared.Layout.{Layout}
 use Rattle.layouts.specs.declared.Refusal.{Refusal}
-use Rattle.marks.specs.Outcomes.{TellsStanding, IsRegisterAfter, IsMarkAt, IsFirstMark}
+use Rattle.marks.specs.Outcomes.{TellsStanding, IsRegisterAfter, IsMarkOf, IsMarkAt, IsFirstMark}
 use Rattle.marks.specs.declared.Mark.{Mark}
 use Rattle.marks.specs.declared.Kinds.{Kinds}
 use Rattle.read.specs.Outcomes.{IsFaultNumber, IsAnswerNumber, Reads, Locates}
@@ -61,6 +61,9 @@ stands mode mark image place = by-value _
 
 pub register-after : (mode : Mode) (mark : Mark) → Unique (IsRegisterAfter mode mark)
 register-after mode mark = by-value _
+
+pub mark-of : (byte : ℕ) → Unique (IsMarkOf byte)
+mark-of byte = by-value _
 
 pub mark-at : (mode : Mode) (kinds : Kinds) (image : List ℕ) (place : ℕ) → Unique (IsMarkAt mode kinds image place)
 mark-at mode kinds image place = by-value _

@@ -1,9 +1,7 @@
 -- What is known of a call that its tests pass: k is the layout that was chosen.
-use mathlib.Core.Path.{_≡_, refl, sym, ap, subst, _∙_}
-use mathlib.Core.Bool.{Bool, true, false, _||_}
+use mathlib.Core.Path.{_≡_, sym, ap, subst, _∙_}
 use mathlib.Core.List.{List, [], _∷_, _++_}
 use Prim.Native.Nat.{ℕ, _*_, _≤_}
-use native.Mathlib.Omega.{arith}
 use borrow.Author.Needs.{needs}
 use borrow.Author.Tests.{eqb-true, ltb-false, not-false}
 use lib.Dec.{eqb, ltb}
@@ -14,20 +12,12 @@ use Rattle.layouts.specs.declared.Layout.{Layout}
 use Rattle.layouts.specs.declared.Chosen.{Chosen}
 use Rattle.layouts.specs.declared.Chosen.the-variants as chosen
 use Rattle.layouts.proofs.Layouts.{layout-known, adds}
-use Rattle.layouts.proofs.Refusals.{passed-both, refusal-passed, taken-passed, track-known}
+use Rattle.layouts.proofs.Refusals.{passed-both, or-right, refusal-passed, taken-passed, track-known}
 use Rattle.read.specs.Turns.{Modest}
 use Rattle.read.specs.Outcomes.{readTests}
 
 pub modest : (n : ℕ) → n ≤ highest → Modest (layoutOf n)
 modest = layout-known Modest (search needs) (search needs) (search needs) (search needs)
-
-pub or-left : (a b : Bool) → (a || b) ≡ false → a ≡ false
-or-left true b e = e
-or-left false b e = refl
-
-pub or-right : (a b : Bool) → (a || b) ≡ false → b ≡ false
-or-right true b e = let z : _≡_ {A = ℕ} 0 1 = cc in absurd (omega arith)
-or-right false b e = e
 
 -- What 2, 3, 4 and 1 say of a call that they pass, and more tests with them.
 pub record Readable (layout cylinder side image : ℕ) (k : Layout) : Type 0 where

@@ -13,13 +13,13 @@ use Rattle.layouts.specs.declared.Checked.the-variants.{Passed}
 use Rattle.layouts.specs.declared.Chosen.{Chosen}
 use Rattle.layouts.specs.declared.Chosen.the-variants as chosen
 use Rattle.layouts.proofs.Layouts.{adds}
-use Rattle.layouts.proofs.Refusals.{passed-both, refusal-passed, taken-passed}
+use Rattle.layouts.proofs.Refusals.{passed-both, or-left, or-right, refusal-passed, taken-passed}
 use Rattle.read.specs.Answers.{answered}
 use Rattle.read.specs.Turns.{Modest}
 use Rattle.read.specs.Picks.{areaTests, pickTests, choice}
 use Rattle.read.specs.declared.Record.{Record}
 use Rattle.read.specs.declared.Choice.the-variants.{First, Second, Neither}
-use Rattle.read.proofs.Passing.{or-left, or-right, modest}
+use Rattle.read.proofs.Passing.{modest}
 
 -- ---- the pass that is taken
 

@@ -17,12 +17,11 @@ use Rattle.layouts.specs.declared.Checked.{Checked}
 use Rattle.layouts.specs.declared.Checked.the-variants.{Passed, Refused}
 use Rattle.layouts.specs.declared.Chosen.{Chosen}
 use Rattle.layouts.specs.declared.Chosen.the-variants as chosen
-use Rattle.layouts.proofs.Refusals.{first-refuses, first-passes, refusal-append-passed, refusal-append-refused, refusal-passed, taken-passed, taken-refused}
+use Rattle.layouts.proofs.Refusals.{first-refuses, first-passes, or-right, refusal-append-passed, refusal-append-refused, refusal-passed, taken-passed, taken-refused}
 use Rattle.marks.specs.Marks.{markByte, markOf}
 use Rattle.marks.specs.Search.{isFound, standing, some}
 use Rattle.marks.specs.declared.Found.{Found}
 use Rattle.read.specs.Walk.{blockMarks, blockCells}
-use Rattle.read.proofs.Passing.{or-right}
 use Rattle.rewrite.specs.Stores.{stored, none, blockEnd, storeCount}
 use Rattle.rewrite.specs.Refusals.{holdsBlock, planned, blockTest, finishedTest, blockTests, stepTests}
 use Rattle.rewrite.specs.Outcomes.{CountsStores, Steps, next}

@@ -57,16 +57,6 @@ fn last_byte(mode: Mode, mark: Mark) -> u8
     }
 }
 
-// The mark that a mark byte asks for.
-fn mark_of(byte: u8) -> Mark
-    ensures { λ r. ⌜ r ≡ markOf byte ⌝ }
-{
-    if byte == 0xF8 {
-        return Mark::Control;
-    }
-    Mark::Data
-}
-
 // Whether the byte after a block is stored too.
 fn is_followed(mode: Mode, end: usize, bytes: usize) -> bool
     ensures { λ r. ⌜ r ≡ follows mode end bytes ⌝ }
@@ -128,7 +118,7 @@ fn coded_byte(mode: Mode, mark: u8, contents: &[u8], at: usize) -> u8
         let last = byte_before(mark, contents, i);
         return half(cells::coded(mode, last % 2, contents[i]), at);
     }
-    let register = edc_of(mode, mark_of(mark), contents);
+    let register = edc_of(mode, marks::mark_of(mark), contents);
     let upper = (register / 256) as u8;
     let lower = (register % 256) as u8;
     if i == contents.len() {
@@ -178,7 +168,7 @@ pub(crate) fn store_of(
     }
     if made + 1 < count_of(layout, place, image.len()) {
         let after = end + made;
-        let bit = (edc_of(mode, mark_of(mark), contents) % 2) as u8;
+        let bit = (edc_of(mode, marks::mark_of(mark), contents) % 2) as u8;
         return Store {
             place: after,
             value: joined(bit, image[after]),
@@ -186,6 +176,6 @@ pub(crate) fn store_of(
     }
     Store {
         place: end,
-        value: last_byte(mode, mark_of(mark)),
+        value: last_byte(mode, marks::mark_of(mark)),
     }
 }

@@ -12,13 +12,12 @@ use Rattle.layouts.specs.Layouts.{highest, layoutOf}
 use Rattle.layouts.specs.Refusals.{Test, refusal, imageTest, areaTest, markTest, controlTest, readingTests, trackTests}
 use Rattle.layouts.specs.declared.Checked.{Checked}
 use Rattle.layouts.specs.declared.Checked.the-variants.{Passed, Refused}
-use Rattle.layouts.proofs.Refusals.{refusal-append-passed, passed-both, refusal-passed, track-known}
+use Rattle.layouts.proofs.Refusals.{refusal-append-passed, passed-both, or-left, or-right, refusal-passed, track-known}
 use Rattle.read.specs.Answers.{blocks}
 use Rattle.read.specs.Outcomes.{locateTests, met, place}
 use Rattle.read.specs.declared.Block.{Block}
 use Rattle.read.specs.declared.Block.the-variants.{Missing, Beyond, Within}
 use Rattle.read.specs.declared.Located.{Located}
-use Rattle.read.proofs.Passing.{or-left, or-right}
 use Rattle.rewrite.specs.Refusals.{isAt, cellOf, found, unreadableTest, boundaryTest, requestTests}
 use Rattle.rewrite.specs.Outcomes.{Requests, requested}
 use Rattle.promises.specs.Rewriting.{Fit}

@@ -1,7 +1,7 @@
 -- `mark_of` meets its contract: the byte is compared with F8.
 use borrow.Author.Tests.{eq-eqb, ne-eqb}
-use Rattle.format.proofs.track.mark_of.Statement.{statement}
-use Rattle.format.proofs.track.mark_of.Tie as tie
+use Rattle.marks.proofs.mark_of.Statement.{statement}
+use Rattle.marks.proofs.mark_of.Tie as tie
 
 returns : tie.Need-returns
 returns c = rw (eq-eqb _ _ (c .if1 .taken))
