@@ -1,0 +1,153 @@
+#include "check.h"
+#include "station.h"
+#include "station_test.h"
+#include "tracks.h"
+
+#include <string.h>
+
+static uint8_t data[LONGEST_AREA], marks[MOST_SECTORS], image[LONGEST + 1];
+static struct room room;
+
+/* What a read is to give; the areas are full of garbage before. */
+struct expected {
+    uint8_t number, answers[26];
+    uint32_t counts[2];
+    uint8_t area[LONGEST_AREA + 1];
+};
+
+static void reads(const struct track *track, size_t image_length, size_t area_length, const struct expected *expected) {
+    uint8_t *area = lend(&room, area_length, 0x77), answers[27];
+    uint32_t counts[3] = {0xDEADBEEF, 0xDEADBEEF, 0xDEADBEEF};
+    memset(answers, 0x99, sizeof answers);
+    SAME(station_read(track->layout, track->cylinder, track->side, image, image_length, area, area_length, answers, counts),
+         expected->number);
+    SAME_BYTES(area, expected->area, area_length);
+    SAME_BYTES(answers, expected->answers, 26);
+    SAME_NUMBERS(counts, expected->counts, 2);
+    SAME(answers[26], 0x99);
+    SAME(counts[2], 0xDEADBEEF);
+    ROOM_KEPT(&room);
+}
+
+/* What went in. */
+static struct expected whole(const struct track *track) {
+    struct expected expected;
+    size_t sector;
+    memset(&expected, 0, sizeof expected);
+    for (sector = 1; sector <= track->sectors; sector++)
+        expected.answers[sector - 1] = answer_of(marks, sector);
+    memcpy(expected.area, data, track->sectors * track->size);
+    return expected;
+}
+
+static void gives(struct expected *expected, const struct track *track, size_t sector, uint8_t answer) {
+    expected->answers[sector - 1] = answer;
+    memset(expected->area + (sector - 1) * track->size, 0, track->size);
+}
+
+static void read_back(const struct track *track) {
+    struct expected expected;
+    fresh(track, data, marks, image);
+    expected = whole(track);
+    reads(track, track->image, track->sectors * track->size, &expected);
+}
+
+/* Every answer, in one track; sector 1 and the last are left whole. */
+static void damaged(const struct track *track) {
+    size_t area = track->sectors * track->size, mark = track->mark_length;
+    struct expected expected;
+    fresh(track, data, marks, image);
+    expected = whole(track);
+    /* a data cell of 2; a clock cell of 1, which does not matter */
+    turn(image, 8 * (mark_of(track, 2) + mark) + 3);
+    gives(&expected, track, 2, STATION_ANSWER_WRONG_EDC);
+    turn(image, 8 * (mark_of(track, 1) + mark) + 2);
+    /* the mark of 3 */
+    turn(image, 8 * mark_of(track, 3));
+    gives(&expected, track, 3, STATION_ANSWER_NO_BLOCK);
+    /* the open mark at 4 */
+    image[mark_of(track, 4) + mark - 1] = track->layout == 0 ? 0x6B : 0x49;
+    gives(&expected, track, 4, STATION_ANSWER_OPEN_MARK);
+    /* the identifier of 5 in the place of that of 6 */
+    memcpy(image + identifier_of(track, 6), image + identifier_of(track, 5), mark + 12);
+    gives(&expected, track, 5, STATION_ANSWER_DOUBLED);
+    gives(&expected, track, 6, STATION_ANSWER_NO_IDENTIFIER);
+    reads(track, track->image, area, &expected);
+    /* the address of 7: its EDC is wrong */
+    turn(image, 8 * (identifier_of(track, 7) + mark) + 1);
+    gives(&expected, track, 7, STATION_ANSWER_NO_IDENTIFIER);
+    expected.counts[0] = 1;
+    reads(track, track->image, area, &expected);
+    /* the capture ends in the block of the last sector */
+    gives(&expected, track, track->sectors, STATION_ANSWER_PAST_END);
+    reads(track, mark_of(track, track->sectors) + mark + 2 * track->size + 3, area, &expected);
+}
+
+/* Another cylinder was asked for: all identifiers are foreign. */
+static void foreign(const struct track *track) {
+    struct track asked = *track;
+    struct expected expected;
+    size_t sector;
+    asked.cylinder = 33;
+    memset(&expected, 0, sizeof expected);
+    for (sector = 1; sector <= track->sectors; sector++)
+        gives(&expected, track, sector, STATION_ANSWER_NO_IDENTIFIER);
+    expected.counts[1] = (uint32_t)track->sectors;
+    fresh(track, data, marks, image);
+    reads(&asked, track->image, track->sectors * track->size, &expected);
+}
+
+/* A refused read: zeros in all that was lent, over its whole length. */
+static void refused(struct track track, size_t image_length, size_t area_length, uint8_t number) {
+    struct expected expected;
+    memset(&expected, 0, sizeof expected);
+    expected.number = number;
+    reads(&track, image_length, area_length, &expected);
+}
+
+static void refusals(const struct track *track) {
+    size_t area = track->sectors * track->size;
+    struct track call = *track;
+    fresh(track, data, marks, image);
+    refused(*track, 0, area, 1);
+    refused(*track, LONGEST + 1, area, 1);
+    call.cylinder = 75, refused(call, track->image, area, 2);
+    call.cylinder = UINT32_MAX, refused(call, track->image, area, 2);
+    call = *track, call.side = 2, refused(call, track->image, area, 3);
+    call.side = UINT32_MAX, refused(call, track->image, area, 3);
+    call = *track, call.layout = 4, refused(call, track->image, area, 4);
+    call.layout = UINT32_MAX, refused(call, track->image, area, 4);
+    call = *track, call.layout = track->layout == 0 ? 1 : 0, refused(call, track->image, area, 4);
+    refused(*track, track->image, area - 1, 5);
+    refused(*track, track->image, area + 1, 5);
+    refused(*track, track->image, 0, 5);
+    /* which comes first where all apply */
+    call.layout = 4, call.cylinder = 75, call.side = 2, refused(call, 0, 1, 2);
+    call.cylinder = 74, refused(call, 0, 1, 3);
+    call.side = 0, refused(call, 0, 1, 4);
+    refused(*track, 0, 1, 1);
+}
+
+/* 01, "Small facts": 24,576 bytes are read; and the four bytes of the program's example. */
+static void lengths(void) {
+    struct expected expected;
+    size_t sector;
+    memset(&expected, 0, sizeof expected);
+    for (sector = 1; sector <= 8; sector++)
+        gives(&expected, &TRACKS[3], sector, STATION_ANSWER_NO_IDENTIFIER);
+    memset(image, 0xFF, sizeof image);
+    reads(&TRACKS[3], 1, 8192, &expected);
+    reads(&TRACKS[3], LONGEST, 8192, &expected);
+}
+
+void read_test(void) {
+    size_t i;
+    for (i = 0; i < 4; i++) {
+        read_back(&TRACKS[i]);
+        damaged(&TRACKS[i]);
+        refusals(&TRACKS[i]);
+    }
+    foreign(&TRACKS[2]);
+    foreign(&TRACKS[3]);
+    lengths();
+}

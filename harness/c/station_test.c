@@ -1,0 +1,105 @@
+/* The library from C: each function of station.h, with each number that it can give. Expectations are literals of the papers, or follow from them. */
+#include "station_test.h"
+
+#include "check.h"
+#include "station.h"
+
+#include <string.h>
+
+/* The header's constants are the papers' numbers. */
+static void numbers(void) {
+    SAME(STATION_DONE, 0);
+    SAME(STATION_REFUSED_IMAGE_LENGTH, 1);
+    SAME(STATION_REFUSED_CYLINDER_NUMBER, 2);
+    SAME(STATION_REFUSED_SIDE_NUMBER, 3);
+    SAME(STATION_REFUSED_LAYOUT_NUMBER, 4);
+    SAME(STATION_REFUSED_AREA_LENGTH, 5);
+    SAME(STATION_REFUSED_MARK_BYTES, 6);
+    SAME(STATION_REFUSED_CONTROL_RECORD, 7);
+    SAME(STATION_REFUSED_OVERFULL, 8);
+    SAME(STATION_REFUSED_SECTOR_NUMBER, 9);
+    SAME(STATION_REFUSED_UNREADABLE, 10);
+    SAME(STATION_REFUSED_OFF_BOUNDARY, 11);
+    SAME(STATION_REFUSED_FINISHED, 12);
+    SAME(STATION_REFUSED_NO_BLOCK, 13);
+    SAME(STATION_ANSWER_DATA, 1);
+    SAME(STATION_ANSWER_CONTROL, 2);
+    SAME(STATION_ANSWER_NO_IDENTIFIER, 21);
+    SAME(STATION_ANSWER_DOUBLED, 22);
+    SAME(STATION_ANSWER_NO_BLOCK, 23);
+    SAME(STATION_ANSWER_PAST_END, 24);
+    SAME(STATION_ANSWER_OPEN_MARK, 25);
+    SAME(STATION_ANSWER_WRONG_EDC, 26);
+    SAME(STATION_MARK_DATA, 0xFB);
+    SAME(STATION_MARK_CONTROL, 0xF8);
+}
+
+/* 01, "Small facts" and the rule that data followed by its EDC leaves the register zero. */
+static void edc(void) {
+    uint8_t bytes[11];
+    uint16_t check;
+    memcpy(bytes, "123456789", 9);
+    check = station_edc(bytes, 9);
+    SAME(check, 0x29B1);
+    bytes[9] = (uint8_t)(check >> 8);
+    bytes[10] = (uint8_t)(check & 0xFF);
+    SAME(station_edc(bytes, 11), 0);
+    bytes[4] ^= 0x10;
+    SAME(station_edc(bytes, 11) != 0, 1);
+    SAME(station_edc(bytes, 0), 0xFFFF);
+}
+
+/* 01, "Small facts". */
+static void code(void) {
+    SAME(station_code_mfm(0, 0x4E), 0x9254);
+    SAME(station_code_mfm(0, 0x00), 0xAAAA);
+    SAME(station_code_mfm(1, 0x00), 0x2AAA);
+    SAME(station_code_mfm(2, 0x00), 0x2AAA);
+    SAME(station_code_mfm(255, 0x00), 0x2AAA);
+    SAME(station_code_mfm(1, 0xFF), 0x5555);
+    SAME(station_code_mfm(0, 0xA1), 0x44A9);
+    SAME(station_code_mfm(0, 0xC2), 0x52A4);
+    SAME(station_code_fm(0, 0x00), 0xAAAA);
+    SAME(station_code_fm(0, 0xFF), 0xFFFF);
+    SAME(station_code_fm(1, 0x00), 0xAAAA);
+}
+
+/* Every byte at every bit of a byte, then past the end, where cells are 0. */
+static void data_byte(void) {
+    uint8_t image[4];
+    unsigned byte, shift;
+    for (byte = 0; byte < 256; byte++) {
+        uint16_t coded = station_code_mfm(0, (uint8_t)byte);
+        for (shift = 0; shift < 8; shift++) {
+            uint32_t cells = (uint32_t)coded << (16 - shift);
+            image[0] = (uint8_t)(cells >> 24);
+            image[1] = (uint8_t)(cells >> 16);
+            image[2] = (uint8_t)(cells >> 8);
+            SAME(station_data_byte(image, 3, shift), byte);
+        }
+    }
+    memset(image, 0xFF, sizeof image);
+    SAME(station_data_byte(image, 2, 0), 0xFF);
+    SAME(station_data_byte(image, 2, 8), 0xF0);
+    SAME(station_data_byte(image, 2, 14), 0x80);
+    SAME(station_data_byte(image, 2, 15), 0x00);
+    SAME(station_data_byte(image, 2, 16), 0x00);
+    SAME(station_data_byte(image, 2, SIZE_MAX), 0x00);
+    SAME(station_data_byte(image, 2, SIZE_MAX - 15), 0x00);
+    SAME(station_data_byte(image, 0, 0), 0x00);
+}
+
+int main(void) {
+    numbers();
+    edc();
+    code();
+    data_byte();
+    format_test();
+    read_test();
+    pick_test();
+    request_test();
+    step_test();
+    cut_test();
+    empty_test();
+    return checks_end();
+}

@@ -1,0 +1,13 @@
+/* The parts of the test, a file each. */
+#ifndef STATION_TEST_H
+#define STATION_TEST_H
+
+void format_test(void);
+void read_test(void);
+void pick_test(void);
+void request_test(void);
+void step_test(void);
+void cut_test(void);
+void empty_test(void);
+
+#endif

@@ -1,0 +1,50 @@
+#include "tracks.h"
+
+#include "check.h"
+#include "station.h"
+
+const struct track TRACKS[4] = {
+    {0, 0, 0, 26, 128, 10416, 158, 206, 2, 376},
+    {1, 0, 1, 26, 256, 20832, 316, 404, 8, 744},
+    {2, 74, 0, 15, 512, 20832, 316, 404, 8, 1316},
+    {3, 5, 1, 8, 1024, 20832, 316, 404, 8, 2404},
+};
+
+size_t identifier_of(const struct track *track, size_t sector) {
+    return track->identifier + (sector - 1) * track->stride;
+}
+
+size_t mark_of(const struct track *track, size_t sector) {
+    return track->data_mark + (sector - 1) * track->stride;
+}
+
+void fill_data(const struct track *track, uint8_t seed, uint8_t *data) {
+    size_t i;
+    uint32_t state = 7u + seed;
+    for (i = 0; i < track->sectors * track->size; i++) {
+        state = state * 1103515245u + 12345u;
+        data[i] = i % track->size == 0 ? 0x44 : (uint8_t)(state >> 16);
+    }
+}
+
+void fill_marks(const struct track *track, uint8_t *marks) {
+    size_t i;
+    for (i = 0; i < track->sectors; i++)
+        marks[i] = i % 3 == 2 ? STATION_MARK_CONTROL : STATION_MARK_DATA;
+}
+
+uint8_t answer_of(const uint8_t *marks, size_t sector) {
+    return marks[sector - 1] == STATION_MARK_CONTROL ? STATION_ANSWER_CONTROL : STATION_ANSWER_DATA;
+}
+
+void fresh(const struct track *track, uint8_t *data, uint8_t *marks, uint8_t *image) {
+    fill_data(track, 0, data);
+    fill_marks(track, marks);
+    SAME(station_format(track->layout, track->cylinder, track->side, data, track->sectors * track->size, marks, track->sectors, image,
+                        track->image),
+         STATION_DONE);
+}
+
+void turn(uint8_t *image, size_t cell) {
+    image[cell / 8] ^= (uint8_t)(0x80u >> cell % 8);
+}

@@ -1,0 +1,156 @@
+/*
+ * station.h: the tracks of 200 mm flexible disk cartridges (ISO 7065-2), held as bit cells: format, read, pick from two passes, rewrite.
+ *
+ * The functions are in target/staticlib/libstation.a, which `rt staticlib station` writes for x86-64 programs. Each is proved to do what is
+ * said here, for all arguments, and to touch no byte but those it is lent. None keeps anything from one call to the next, and none allocates.
+ *
+ * What is lent. An area is a pointer to its first byte and, where the length is not fixed, the number of its bytes, NAME_length.
+ *   - const areas are only read, and may overlap one another; the others are written, and must overlap no other area of the call.
+ *   - Each pointer must be valid for as many elements as are said, and nothing else may write them during the call.
+ *   - Through a pointer whose length is 0 nothing is read or written: it may be null. (The proofs speak of areas, not of pointers; this was
+ *     seen by trying it, for each such pointer.) The pointers without a length are never null.
+ *   - Numbers have no such rule: every value of every number is taken, and answered or refused.
+ *
+ * An image is a track's cells, eight to a byte, the most significant bit first, from the index hole on. An area of sectors is a slot of
+ * N bytes for each sector number, sector 1 first: sector s is at (s - 1) * N.
+ *
+ *   layout  mode  sectors  N     area   image   on the tracks
+ *   0       FM    26        128  3,328  10,416  cylinder 0, side 0
+ *   1       MFM   26        256  6,656  20,832  cylinder 0, side 1, and cylinders 1 to 74
+ *   2       MFM   15        512  7,680  20,832  cylinders 1 to 74
+ *   3       MFM    8      1,024  8,192  20,832  cylinders 1 to 74
+ *
+ * Numbers that come back. A call answers 0, or the number of a refusal: the first that applies in the order given with the function.
+ *
+ *   0   done
+ *   1   the length of the image: for a format the table's, else 1 to 24,576 bytes
+ *   2   cylinder above 74
+ *   3   side above 1
+ *   4   layout above 3, or not allowed on this track
+ *   5   the length of the data or the area: the table's; for a rewrite N
+ *   6   a mark that is neither FB nor F8, or not as many marks as sectors
+ *   7   cylinder 0, mark F8, and the sector's first byte is not hex 44
+ *   8   the layout's fields are more than the image: never seen, since it is proved that they are not
+ *   9   sector 0, or above the layout's count
+ *   10  the sector to be rewritten can't be found: reading answers 21, 22, 23 or 24 for it
+ *   11  its mark is not on a byte boundary
+ *   12  a step after the last
+ *   13  a step, and no data, control or open mark stands at the plan's place on a byte boundary, or its block passes the image's end
+ *
+ * A sector's answer, from station_read in `answers` and from station_pick:
+ *
+ *   1   a data record: the slot holds its bytes
+ *   2   a control record: the slot holds its bytes
+ *   21  no identifier of this sector was found
+ *   22  more than one was
+ *   23  it has no data block
+ *   24  its block passes the end of the image
+ *   25  an open mark: a rewrite of this sector was cut off
+ *   26  its EDC is wrong
+ *
+ * With 21 to 26 the slot is all zero. No number of an answer that station_pick gives is that of a refusal that it gives.
+ */
+#ifndef STATION_H
+#define STATION_H
+
+#include <stddef.h>
+#include <stdint.h>
+
+#ifdef __cplusplus
+extern "C" {
+#endif
+
+enum station_refusal {
+    STATION_DONE = 0,
+    STATION_REFUSED_IMAGE_LENGTH = 1,
+    STATION_REFUSED_CYLINDER_NUMBER = 2,
+    STATION_REFUSED_SIDE_NUMBER = 3,
+    STATION_REFUSED_LAYOUT_NUMBER = 4,
+    STATION_REFUSED_AREA_LENGTH = 5,
+    STATION_REFUSED_MARK_BYTES = 6,
+    STATION_REFUSED_CONTROL_RECORD = 7,
+    STATION_REFUSED_OVERFULL = 8,
+    STATION_REFUSED_SECTOR_NUMBER = 9,
+    STATION_REFUSED_UNREADABLE = 10,
+    STATION_REFUSED_OFF_BOUNDARY = 11,
+    STATION_REFUSED_FINISHED = 12,
+    STATION_REFUSED_NO_BLOCK = 13
+};
+
+enum station_answer {
+    STATION_ANSWER_DATA = 1,
+    STATION_ANSWER_CONTROL = 2,
+    STATION_ANSWER_NO_IDENTIFIER = 21,
+    STATION_ANSWER_DOUBLED = 22,
+    STATION_ANSWER_NO_BLOCK = 23,
+    STATION_ANSWER_PAST_END = 24,
+    STATION_ANSWER_OPEN_MARK = 25,
+    STATION_ANSWER_WRONG_EDC = 26
+};
+
+/* The marks that a sector may be given: of a data record, and of a control record. */
+enum station_mark {
+    STATION_MARK_DATA = 0xFB,
+    STATION_MARK_CONTROL = 0xF8
+};
+
+/* The EDC of the bytes: X^16 + X^12 + X^5 + 1, the register all ones at the start. Never refused. */
+uint16_t station_edc(const uint8_t *bytes, size_t bytes_length);
+
+/* The two image bytes of `byte` in FM, the first in the upper half. `before` changes nothing in FM. Never refused. */
+uint16_t station_code_fm(uint8_t before, uint8_t byte);
+
+/* The same in MFM, after the data bit `before`: 0 is ZERO, anything else ONE. Never refused. */
+uint16_t station_code_mfm(uint8_t before, uint8_t byte);
+
+/* The data byte that the sixteen cells from cell `place` on hold; cells past the end of the image are 0. Never refused. */
+uint8_t station_data_byte(const uint8_t *image, size_t image_length, size_t place);
+
+/*
+ * Formats a track. `data` has the sectors' bytes, an area of the layout's length, and `marks` a mark for each sector, by sector number.
+ * 0: `image`, whatever it held, holds the track. Refused 2, 3, 4, 1, 5, 6, 7: `image` is as it was.
+ */
+uint8_t station_format(uint32_t layout, uint32_t cylinder, uint32_t side, const uint8_t *data, size_t data_length,
+                       const uint8_t *marks, size_t marks_length, uint8_t *image, size_t image_length);
+
+/*
+ * Reads a track. Whatever they held before, `area` gets the sectors' slots; `answers` the answers by sector, that of sector 1 first, and 0
+ * past the layout's count; `counts` the number of identifiers with a wrong EDC, and of those of other tracks.
+ * 0: read; look at `answers` before any slot is used. Refused 2, 3, 4, 1, 5: all three hold zeros, `area` over the whole length lent.
+ */
+uint8_t station_read(uint32_t layout, uint32_t cylinder, uint32_t side, const uint8_t *image, size_t image_length, uint8_t *area,
+                     size_t area_length, uint8_t answers[26], uint32_t counts[2]);
+
+/*
+ * Picks a sector from two passes over one track, each an area and the answers that station_read gave with it (a number that is no answer's
+ * counts as 21): from whichever pass answered 1 or 2, the first before the second, and never from both.
+ * Gives the sector's answer: with 1 or 2 `taken` gets the pass, 1 or 2, the first byte of the slot in that pass's area, and the slot's
+ * length; else it is the first pass's answer, and `taken` gets zeros. Refused 4 (only above 3), 9, 5: zeros.
+ */
+uint8_t station_pick(uint32_t layout, uint32_t sector, const uint8_t *first, size_t first_length, const uint8_t first_answers[26],
+                     const uint8_t *second, size_t second_length, const uint8_t second_answers[26], uint32_t taken[3]);
+
+/*
+ * Asks for the rewrite of a sector with a mark and N bytes. The image is only read.
+ * 0: `plan` gets the layout, the cell at which the block's mark begins, the stores made, which are 0, and the stores in all.
+ * Refused 2, 3, 4, 1, 9, 5, 6, 7, 10, 11: zeros.
+ */
+uint8_t station_request(uint32_t layout, uint32_t cylinder, uint32_t side, uint32_t sector, uint32_t mark, const uint8_t *contents,
+                        size_t contents_length, const uint8_t *image, size_t image_length, uint32_t plan[4]);
+
+/*
+ * Makes the next store of a rewrite: one byte of the image. Hand it the plan, and the mark and the bytes of the request, until the stores made,
+ * plan[2], are the stores in all, plan[3]. It looks for the mark at the plan's place each time; plan[3] it only writes.
+ * 0: the store is made, and the plan moved on. Refused 4 (only above 3), 1, 5, 6, 13, 12: plan and image are as they were.
+ *
+ * It may be cut after any store: every other sector reads as before; the one under way answers 25 from the first store to the last but one,
+ * and asking anew ends with the image that an uncut rewrite leaves.
+ */
+uint8_t station_step(uint32_t plan[4], uint32_t mark, const uint8_t *contents, size_t contents_length, uint8_t *image,
+                     size_t image_length);
+
+#ifdef __cplusplus
+}
+#endif
+
+#endif
