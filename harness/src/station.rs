@@ -1,31 +1,31 @@
 //! Safe wrappers of the functions that the Rattle crate `station` exports.
 
-/// A slice is two arguments, its pointer and its number of elements.
+/// A slice is two arguments, its pointer and its number of elements. tests/header holds this to the Rattle signatures.
 mod exported {
     extern "C" {
-        pub fn station_edc(bytes: *const u8, len: usize) -> u16;
+        pub fn station_edc(bytes: *const u8, bytes_length: usize) -> u16;
         pub fn station_code_fm(before: u8, byte: u8) -> u16;
         pub fn station_code_mfm(before: u8, byte: u8) -> u16;
-        pub fn station_data_byte(image: *const u8, len: usize, cell: usize) -> u8;
+        pub fn station_data_byte(image: *const u8, image_length: usize, place: usize) -> u8;
         pub fn station_format(
             layout: u32,
             cylinder: u32,
             side: u32,
             data: *const u8,
-            data_len: usize,
+            data_length: usize,
             marks: *const u8,
-            marks_len: usize,
+            marks_length: usize,
             image: *mut u8,
-            image_len: usize,
+            image_length: usize,
         ) -> u8;
         pub fn station_read(
             layout: u32,
             cylinder: u32,
             side: u32,
             image: *const u8,
-            image_len: usize,
+            image_length: usize,
             area: *mut u8,
-            area_len: usize,
+            area_length: usize,
             answers: *mut [u8; 26],
             counts: *mut [u32; 2],
         ) -> u8;
@@ -33,10 +33,10 @@ mod exported {
             layout: u32,
             sector: u32,
             first: *const u8,
-            first_len: usize,
+            first_length: usize,
             first_answers: *const [u8; 26],
             second: *const u8,
-            second_len: usize,
+            second_length: usize,
             second_answers: *const [u8; 26],
             taken: *mut [u32; 3],
         ) -> u8;
@@ -47,18 +47,18 @@ mod exported {
             sector: u32,
             mark: u32,
             contents: *const u8,
-            contents_len: usize,
+            contents_length: usize,
             image: *const u8,
-            image_len: usize,
+            image_length: usize,
             plan: *mut [u32; 4],
         ) -> u8;
         pub fn station_step(
             plan: *mut [u32; 4],
             mark: u32,
             contents: *const u8,
-            contents_len: usize,
+            contents_length: usize,
             image: *mut u8,
-            image_len: usize,
+            image_length: usize,
         ) -> u8;
     }
 }

@@ -1,0 +1,109 @@
+//! The exported functions of the Rattle crate, and what each is in C and in Rust.
+
+/// What a parameter is.
+#[derive(Debug, PartialEq)]
+enum Kind {
+    /// A number by value: `u32`.
+    Number(String),
+    /// `&[u8]` or `&mut [u8]`: a pointer and a length.
+    Slice { element: String, written: bool },
+    /// `&[u8; 26]` or `&mut [u8; 26]`: a pointer.
+    Array { element: String, count: String, written: bool },
+}
+
+#[derive(Debug)]
+pub struct Function {
+    pub name: String,
+    parameters: Vec<(String, Kind)>,
+    result: String,
+}
+
+const BEGIN: &str = "pub extern \"C\" fn ";
+
+/// The exported functions, in order. Each item begins with `#[no_mangle]`, and none is left out.
+pub fn exported(source: &str) -> Vec<Function> {
+    let source = without_line_comments(source);
+    let items: Vec<&str> = source.split("#[no_mangle]").skip(1).collect();
+    assert_eq!(
+        items.len(),
+        source.matches("extern \"C\"").count(),
+        "an extern \"C\" without #[no_mangle], or the reverse"
+    );
+    items.iter().map(|item| function(item.trim_start())).collect()
+}
+
+pub fn without_line_comments(source: &str) -> String {
+    source.lines().map(|line| line.split("//").next().unwrap_or("")).collect::<Vec<_>>().join("\n")
+}
+
+fn function(item: &str) -> Function {
+    let item = item.strip_prefix(BEGIN).unwrap_or_else(|| panic!("#[no_mangle] before something else: {item:.60}"));
+    let (name, rest) = item.split_once('(').expect("parameters");
+    let (parameters, rest) = rest.split_once(')').expect("the parameters' end");
+    let result = rest.trim_start().strip_prefix("->").expect("a result");
+    let result = result.split_whitespace().next().expect("a result's type");
+    let parameters = parameters.split(',').map(str::trim).filter(|text| !text.is_empty()).map(parameter);
+    Function { name: name.trim().to_string(), parameters: parameters.collect(), result: result.to_string() }
+}
+
+fn parameter(text: &str) -> (String, Kind) {
+    let (name, kind) = text.split_once(':').expect("a parameter's type");
+    (name.trim().to_string(), self::kind(kind.trim()))
+}
+
+fn kind(text: &str) -> Kind {
+    let (lent, written) = match (text.strip_prefix("&mut "), text.strip_prefix('&')) {
+        (Some(lent), _) => (lent, true),
+        (None, Some(lent)) => (lent, false),
+        (None, None) => return Kind::Number(text.to_string()),
+    };
+    let inner = lent.trim().strip_prefix('[').and_then(|inner| inner.strip_suffix(']'));
+    let inner = inner.unwrap_or_else(|| panic!("neither a number nor a slice nor an array: {text}"));
+    match inner.split_once(';') {
+        Some((element, count)) => {
+            Kind::Array { element: element.trim().to_string(), count: count.trim().to_string(), written }
+        }
+        None => Kind::Slice { element: inner.trim().to_string(), written },
+    }
+}
+
+/// The C type of a number.
+fn c_type(number: &str) -> &'static str {
+    match number {
+        "u8" => "uint8_t",
+        "u16" => "uint16_t",
+        "u32" => "uint32_t",
+        "usize" => "size_t",
+        _ => panic!("no C type is given for {number}"),
+    }
+}
+
+impl Function {
+    /// The prototype in C: a slice `image` is `image` and `image_length`.
+    pub fn in_c(&self) -> String {
+        let constant = |written: &bool| if *written { "" } else { "const " };
+        let parameter = |(name, kind): &(String, Kind)| match kind {
+            Kind::Number(number) => format!("{} {name}", c_type(number)),
+            Kind::Slice { element, written } => {
+                format!("{}{} *{name}, size_t {name}_length", constant(written), c_type(element))
+            }
+            Kind::Array { element, count, written } => {
+                format!("{}{} {name}[{count}]", constant(written), c_type(element))
+            }
+        };
+        let parameters: Vec<String> = self.parameters.iter().map(parameter).collect();
+        format!("{} {}({})", c_type(&self.result), self.name, parameters.join(", "))
+    }
+
+    /// The declaration in Rust, by the same rule.
+    pub fn in_rust(&self) -> String {
+        let pointer = |written: &bool| if *written { "*mut" } else { "*const" };
+        let parameter = |(name, kind): &(String, Kind)| match kind {
+            Kind::Number(number) => format!("{name}: {number}"),
+            Kind::Slice { element, written } => format!("{name}: {} {element}, {name}_length: usize", pointer(written)),
+            Kind::Array { element, count, written } => format!("{name}: {} [{element}; {count}]", pointer(written)),
+        };
+        let parameters: Vec<String> = self.parameters.iter().map(parameter).collect();
+        format!("fn {}({}) -> {}", self.name, parameters.join(", "), self.result)
+    }
+}
