@@ -2,7 +2,8 @@
  * station.h: the tracks of 200 mm flexible disk cartridges (ISO 7065-2), held as bit cells: format, read, pick from two passes, rewrite.
  *
  * The functions are in target/staticlib/libstation.a, which `rt staticlib station` writes for x86-64 programs. Each is proved to do what is
- * said here, for all arguments, and to touch no byte but those it is lent. None keeps anything from one call to the next, and none allocates.
+ * said at its prototype, for all arguments, and to touch no byte but those it is lent. The archive has no variable and calls nothing but
+ * memset: nothing is kept from one call to the next, and nothing is allocated.
  *
  * What is lent. An area is a pointer to its first byte and, where the length is not fixed, the number of its bytes, NAME_length.
  *   - const areas are only read, and may overlap one another; the others are written, and must overlap no other area of the call.
@@ -30,7 +31,7 @@
  *   5   the length of the data or the area: the table's; for a rewrite N
  *   6   a mark that is neither FB nor F8, or not as many marks as sectors
  *   7   cylinder 0, mark F8, and the sector's first byte is not hex 44
- *   8   the layout's fields are more than the image: never seen, since it is proved that they are not
+ *   8   the layout's fields are more than the image: no layout meets this, since each is proved to add up to the table's length
  *   9   sector 0, or above the layout's count
  *   10  the sector to be rewritten can't be found: reading answers 21, 22, 23 or 24 for it
  *   11  its mark is not on a byte boundary
