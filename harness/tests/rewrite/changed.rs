@@ -25,8 +25,8 @@ fn d3_images_of_another_length() {
         let longer = [&call.image[..], &[0x12]].concat();
         let shorter = &call.image[..end - 1];
         // stores made, image; number, stores in all, the byte that the store is for
-        let cases: &[(u32, &[u8], u8, u32, usize)] = if track == FM {
-            &[
+        let cases: Vec<(u32, &[u8], u8, u32, usize)> = if track == FM {
+            vec![
                 (data + 5, &call.image, 0, data + 6, mark),
                 (data + 6, &call.image, 12, 0, 0),
                 (data + 5, &longer, 0, data + 6, mark),
@@ -35,7 +35,7 @@ fn d3_images_of_another_length() {
                 (data + 6, shorter, 13, 0, 0),
             ]
         } else {
-            &[
+            vec![
                 (data + 5, &call.image, 0, data + 6, mark),
                 (data + 6, &call.image, 12, 0, 0),
                 (data + 5, &longer, 0, data + 7, end),
@@ -46,7 +46,7 @@ fn d3_images_of_another_length() {
                 (data + 7, shorter, 13, 0, 0),
             ]
         };
-        for &(made, image, number, all, at) in cases {
+        for (made, image, number, all, at) in cases {
             let mut image = image.to_vec();
             if number == 0 {
                 // so that the store shows: another mark, and a byte whose first clock cell is to change
