@@ -1,5 +1,11 @@
 #!/bin/sh
-# usage: harness/run.sh [test WORDS.. | c | bench [--steps]]: the Rattle library from Rust and from C, native on x86-64, emulated on Arm
+# usage, all of it the Rattle library from Rust and from C, native on x86-64, emulated on Arm:
+#        harness/run.sh [test]: all comparisons, with the inputs by kind and the answers and refusals that were met; it fails
+#            where two sides differ, and where one of those numbers was not met
+#        harness/run.sh test WORDS..: those comparisons in Rust that have such a word in their names
+#        harness/run.sh c: each exported function from C
+#        harness/run.sh soak SEED ROUNDS: random comparisons for as long as one likes; soak SEED ROUND --only repeats a round
+#        harness/run.sh bench [--steps]: the ratios Rattle / Rust of executed instructions and, on x86-64, of time
 #        harness/run.sh vectors: writes vectors/ and samples/ anew, by the reference alone
 #        harness/run.sh peers make|compare FOLDER: for bin/peers
 # Exit status 77: the compiler that this machine lacks cannot be had; nothing was compared, or nothing in C.
@@ -19,16 +25,35 @@ c_test() { # 77 where there is no compiler for it
         run_program "$here/target/c/station_test"
 }
 
+rust_tests() { # WORDS..
+    export HARNESS_TALLY="$here/target/tally" # the tests note there what they met
+    rm -f "$HARNESS_TALLY"
+    cargo test --offline --tests --target $target "$@"
+}
+
+program() { # NAME WORDS..
+    name=$1
+    shift
+    exec cargo run --quiet --offline --release --target $target --bin "$name" -- "$@"
+}
+
 what=${1:-test} && [ $# -eq 0 ] || shift
 case $what in
-test) # words choose among the tests in Rust; without any the one in C is run too
+test)
+    if [ $# -gt 0 ]; then
+        rust_tests "$@"
+        echo "not all of the tests: whether every kind was met is not looked at"
+        exit
+    fi
     in_c=0
-    [ $# -gt 0 ] || c_test || in_c=$?
+    c_test || in_c=$?
     case $in_c in 0) ;; 77) echo "not run: the test in C" ;; *) exit $in_c ;; esac
-    cargo test --offline --tests --target $target "$@" && exit $in_c ;;
+    rust_tests
+    cargo run --quiet --offline --profile test --target $target --bin tally -- "$HARNESS_TALLY"
+    exit $in_c
+    ;;
 c) c_test ;;
-bench) exec cargo run --offline --release --target $target --bin bench -- "$@" ;;
-peers) exec cargo run --offline --quiet --release --target $target --bin peers -- "$@" ;;
-vectors) exec cargo run --offline --release --target $target --bin vectors -- "$here/.." ;;
-*) echo "usage: $0 [test WORDS.. | c | bench [--steps] | vectors | peers make|compare FOLDER]" >&2; exit 2 ;;
+soak | bench | peers) program "$what" "$@" ;;
+vectors) program vectors "$root" ;;
+*) sed -n '2,/^# Exit/s/^# \{0,8\}//p' "$0" >&2; exit 2 ;;
 esac

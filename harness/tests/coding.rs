@@ -2,6 +2,7 @@
 use harness::reference::coding::{self, Mode};
 use harness::rng::Rng;
 use harness::station;
+use harness::tally::Tally;
 
 const MODES: [Mode; 2] = [Mode::Fm, Mode::Mfm];
 
@@ -15,7 +16,7 @@ fn station_code(mode: Mode, before: u8, byte: u8) -> u16 {
 
 #[test]
 fn every_byte_after_every_bit() {
-    let mut inputs = 0;
+    let mut tally = Tally::new("coding", "every byte after every bit in both modes");
     for mode in MODES {
         // 0 is ZERO, all else is ONE
         for before in 0..=255 {
@@ -23,15 +24,16 @@ fn every_byte_after_every_bit() {
                 let expected = coding::code(mode, before != 0, byte);
                 let coded = station_code(mode, before, byte);
                 assert_eq!(coded, expected, "{mode:?} {byte:02X} after {before}: {coded:04X}, not {expected:04X}");
-                inputs += 1;
+                tally.input();
             }
         }
     }
-    println!("coding, every byte after every bit in both modes: {inputs} inputs compared");
+    tally.report();
 }
 
 #[test]
 fn small_facts() {
+    let mut tally = Tally::new("coding", "small facts");
     // mode, bit before, byte, image bytes: 01, "Small facts"
     let facts = [
         (Mode::Mfm, 0, 0x4E, 0x9254),
@@ -48,14 +50,15 @@ fn small_facts() {
     for (mode, before, byte, image) in facts {
         assert_eq!(station_code(mode, before, byte), image, "{mode:?} {byte:02X} after {before}");
         assert_eq!(coding::code(mode, before != 0, byte), image, "reference: {mode:?} {byte:02X} after {before}");
+        tally.input();
     }
-    println!("coding, small facts: {} inputs compared", facts.len());
+    tally.report();
 }
 
 #[test]
 fn what_is_coded_is_read_back() {
     let mut rng = Rng::new(1);
-    let mut inputs = 0;
+    let mut tally = Tally::new("coding", "every coded byte read back at every shift");
     for mode in MODES {
         for before in 0..=1 {
             for byte in 0..=255 {
@@ -67,27 +70,29 @@ fn what_is_coded_is_read_back() {
                     let image = &cells.to_be_bytes()[1..];
                     let read = station::data_byte(image, shift);
                     assert_eq!(read, byte, "{mode:?} {byte:02X} after {before} at cell {shift}: read {read:02X}");
-                    inputs += 1;
+                    tally.input();
                 }
             }
         }
     }
-    println!("coding, every coded byte read back at every shift: {inputs} inputs compared");
+    tally.report();
 }
 
 /// Holds the two sides against each other on one cell of an image.
-fn compare_data_byte(image: &[u8], cell: usize) {
+fn compare_data_byte(tally: &mut Tally, image: &[u8], cell: usize) {
     assert_eq!(
         station::data_byte(image, cell),
         coding::data_byte(image, cell),
         "data byte at cell {cell} of {image:02X?}"
     );
+    tally.input();
 }
 
 #[test]
 fn data_bytes_of_random_images() {
     const INPUTS: usize = 50_000;
     let mut rng = Rng::new(2);
+    let mut tally = Tally::new("data bytes", "random cells of random images");
     for _ in 0..INPUTS {
         let length = rng.below(64);
         let bytes = rng.bytes(length);
@@ -95,14 +100,14 @@ fn data_bytes_of_random_images() {
         let image = &bytes[from..];
         // up to five bytes past the end
         let cell = rng.below(8 * image.len() + 40);
-        compare_data_byte(image, cell);
+        compare_data_byte(&mut tally, image, cell);
     }
-    println!("data bytes, random cells of random images: {INPUTS} inputs compared");
+    tally.report();
 }
 
 #[test]
 fn data_bytes_at_the_edges() {
-    let mut inputs = 0;
+    let mut tally = Tally::new("data bytes", "short images and the largest cell numbers");
     for length in 0..=4 {
         let image = vec![0xFF; length];
         let near = 0..64;
@@ -110,9 +115,8 @@ fn data_bytes_at_the_edges() {
         // where eight times a byte's number, or a number of 32 bits, runs over
         let over = (0..64).flat_map(|on| [32, 61, 63].map(|power| (1 << power) - 32 + on));
         for cell in near.chain(far).chain(over) {
-            compare_data_byte(&image, cell);
-            inputs += 1;
+            compare_data_byte(&mut tally, &image, cell);
         }
     }
-    println!("data bytes, short images and the largest cell numbers: {inputs} inputs compared");
+    tally.report();
 }

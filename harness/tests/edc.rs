@@ -2,65 +2,71 @@
 use harness::reference;
 use harness::rng::Rng;
 use harness::station;
+use harness::tally::Tally;
 use std::io::{self, Write};
 use std::process::{Command, Stdio};
 
 /// Holds the two sides against each other on one input.
-fn compare(bytes: &[u8]) {
+fn compare(tally: &mut Tally, bytes: &[u8]) {
     let (found, expected) = (station::edc(bytes), reference::edc::edc(bytes));
     assert_eq!(found, expected, "EDC of {bytes:02X?}: {found:04X}, not {expected:04X}");
+    tally.input();
 }
 
 #[test]
 fn every_short_length() {
-    let mut inputs = 0;
+    let mut tally = Tally::new("EDC", "all 00 and all FF and each single bit of up to 64 bytes");
     for length in 0..=64 {
-        compare(&vec![0x00; length]);
-        compare(&vec![0xFF; length]);
+        compare(&mut tally, &vec![0x00; length]);
+        compare(&mut tally, &vec![0xFF; length]);
         for bit in 0..8 * length {
             let mut bytes = vec![0; length];
             bytes[bit / 8] = 0x80 >> (bit % 8);
-            compare(&bytes);
+            compare(&mut tally, &bytes);
         }
-        inputs += 2 + 8 * length;
     }
-    println!("EDC, lengths 0 to 64, all 00, all FF and each single bit: {inputs} inputs compared");
+    tally.report();
 }
 
 #[test]
 fn random_parts() {
     const INPUTS: usize = 20_000;
     let mut rng = Rng::new(1);
+    let mut tally = Tally::new("EDC", "random parts at any offset");
     for _ in 0..INPUTS {
         // up to the longest block: four bytes of the mark, 1,024 of data, two of the EDC
         let length = rng.below(1031);
         let bytes = rng.bytes(length);
         // a part may begin at any alignment
         let from = rng.below(length + 1);
-        compare(&bytes[from..]);
+        compare(&mut tally, &bytes[from..]);
     }
-    println!("EDC, random parts at any offset: {INPUTS} inputs compared");
+    tally.report();
 }
 
 #[test]
 fn its_own_edc_leaves_zero() {
     const INPUTS: usize = 5_000;
     let mut rng = Rng::new(2);
+    let mut tally = Tally::new("EDC", "data followed by its own EDC");
     for _ in 0..INPUTS {
         let length = rng.below(300);
         let mut bytes = rng.bytes(length);
         let edc = station::edc(&bytes);
         bytes.extend_from_slice(&edc.to_be_bytes());
         assert_eq!(station::edc(&bytes), 0, "data and EDC {bytes:02X?}");
+        tally.input();
     }
-    println!("EDC, data followed by its own EDC leaves zero: {INPUTS} inputs compared");
+    tally.report();
 }
 
 #[test]
 fn published_check_value() {
+    let mut tally = Tally::new("EDC", "published check value");
     assert_eq!(station::edc(b"123456789"), 0x29B1);
     assert_eq!(reference::edc::edc(b"123456789"), 0x29B1);
-    println!("EDC, published check value: 1 input compared");
+    tally.input();
+    tally.report();
 }
 
 /// Answers a line of hexadecimal digits with the EDC of its bytes. It reads everything before it writes anything, so
@@ -79,6 +85,7 @@ fn python_agrees() {
     }
     const INPUTS: usize = 5_000;
     let mut rng = Rng::new(3);
+    let mut tally = Tally::new("EDC", "random bytes against Python's crc_hqx");
     let inputs: Vec<Vec<u8>> = (0..INPUTS)
         .map(|_| {
             let length = rng.below(200);
@@ -89,8 +96,9 @@ fn python_agrees() {
     assert_eq!(answers.lines().count(), INPUTS, "lines that python3 wrote");
     for (bytes, answer) in inputs.iter().zip(answers.lines()) {
         assert_eq!(Ok(station::edc(bytes)), u16::from_str_radix(answer, 16), "EDC of {bytes:02X?}: not {answer}");
+        tally.input();
     }
-    println!("EDC against Python's crc_hqx: {INPUTS} inputs compared");
+    tally.report();
 }
 
 fn python_runs() -> bool {

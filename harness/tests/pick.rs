@@ -1,66 +1,16 @@
 //! The pick from two passes: the reference against the papers (01, "Two passes"), and `station_pick` against the
 //! reference.
-use harness::reference::pick::{pick, taken, Pick, Picker};
+use harness::compare::pick::{compare, Call};
+use harness::reference::pick::{pick, Pick};
 use harness::rng::Rng;
-use harness::station;
-use harness::tracks::{self, Track};
-
-/// Every answer of a reader.
-const ANSWERS: [u8; 8] = [1, 2, 21, 22, 23, 24, 25, 26];
-
-/// All that is handed to a pick.
-#[derive(Clone)]
-struct Call {
-    layout: u32,
-    sector: u32,
-    first: Vec<u8>,
-    first_answers: [u8; 26],
-    second: Vec<u8>,
-    second_answers: [u8; 26],
-}
-
-impl Call {
-    /// Random areas with random answers, of which every eighth or so is no answer.
-    fn new(rng: &mut Rng, track: Track) -> Call {
-        let area = track.layout().area_bytes();
-        let mut answers = || -> [u8; 26] {
-            [0; 26].map(|_: u8| match rng.below(8) {
-                0 => rng.byte(),
-                _ => ANSWERS[rng.below(8)],
-            })
-        };
-        let (first_answers, second_answers) = (answers(), answers());
-        let sector = 1 + rng.below(track.layout().sectors) as u32;
-        let (first, second) = (rng.bytes(area), rng.bytes(area));
-        Call { layout: track.layout, sector, first, first_answers, second, second_answers }
-    }
-
-    /// What comes of it on one side: the number and what is taken, which held something else before.
-    fn outcome(&self, rng: &mut Rng, picker: Picker) -> (u8, [u32; 3]) {
-        let Call { layout, sector, first, first_answers, second, second_answers } = self;
-        let mut taken = [0; 3].map(|_: u32| rng.bits() as u32 | 1);
-        let number = picker(*layout, *sector, first, first_answers, second, second_answers, &mut taken);
-        (number, taken)
-    }
-}
-
-/// Holds the library against the reference on one call, and hands back their outcome.
-fn compare(rng: &mut Rng, call: &Call) -> (u8, [u32; 3]) {
-    let Call { layout, sector, first, second, .. } = call;
-    let expected = call.outcome(rng, taken);
-    let lent = call.clone();
-    let found = lent.outcome(rng, station::pick);
-    let (lengths, answers) = ((first.len(), second.len()), (call.first_answers, call.second_answers));
-    assert_eq!(found, expected, "layout {layout}, sector {sector}, areas of {lengths:?} bytes, answers {answers:?}");
-    assert!(lent.first == *first && lent.second == *second, "an area changed");
-    assert_eq!((lent.first_answers, lent.second_answers), answers, "answers changed");
-    expected
-}
+use harness::tally::met::{Row, ANSWERS};
+use harness::tally::Tally;
+use harness::tracks;
 
 #[test]
 fn first_before_second_before_neither() {
     let mut rng = Rng::new(1);
-    let mut inputs = 0;
+    let mut tally = Tally::new("pick", "every pair of answers");
     for track in tracks::all() {
         let layout = track.layout();
         let size = layout.size;
@@ -81,17 +31,18 @@ fn first_before_second_before_neither() {
                     (false, false) => (Pick::Neither(one), (one, [0; 3])),
                 };
                 assert_eq!(picked, expected, "sector {sector}, answers {one} and {other}: {track:?}");
-                assert_eq!(compare(&mut rng, &call), numbers, "sector {sector}, {one} and {other}: {track:?}");
-                inputs += 1;
+                let found = compare(&mut tally, &mut rng, &call);
+                assert_eq!(found, numbers, "sector {sector}, {one} and {other}: {track:?}");
             }
         }
     }
-    println!("pick, every pair of answers: {inputs} inputs compared");
+    tally.report();
 }
 
 #[test]
 fn every_pair_of_numbers() {
     let mut rng = Rng::new(2);
+    let mut tally = Tally::new("pick", "every pair of numbers in the answers");
     let mut call = Call::new(&mut rng, tracks::FM);
     for one in 0..=0xFF {
         for other in 0..=0xFF {
@@ -103,27 +54,28 @@ fn every_pair_of_numbers() {
                 (21..=26, _) => (one, [0; 3]),
                 _ => (21, [0; 3]),
             };
-            assert_eq!(compare(&mut rng, &call), expected, "{one} and {other}");
+            assert_eq!(compare(&mut tally, &mut rng, &call), expected, "{one} and {other}");
         }
     }
-    println!("pick, every pair of numbers in the answers: {} inputs compared", 256 * 256);
+    tally.report();
 }
 
 #[test]
 fn random_answers() {
     const INPUTS: usize = 5_000;
     let mut rng = Rng::new(3);
-    let (tracks, mut passes) = (tracks::all(), [0; 3]);
+    let mut tally = Tally::new("pick", "random answers");
     for _ in 0..INPUTS {
-        let track = tracks[rng.below(tracks.len())];
+        let track = tracks::any(&mut rng);
         let call = Call::new(&mut rng, track);
-        passes[compare(&mut rng, &call).1[0] as usize] += 1;
+        compare(&mut tally, &mut rng, &call);
     }
-    println!("pick, random answers: {INPUTS} inputs compared, {passes:?} for neither, first, second");
+    tally.report();
 }
 
 #[test]
 fn refusals() {
+    let mut tally = Tally::of_reference("pick", "refusals");
     let (right, short) = (vec![0; 26 * 128], vec![0; 26 * 128 - 1]);
     let picked = |layout, sector, first, second| pick(layout, sector, first, &[1; 26], second, &[1; 26]);
     for (layout, sector, first, second, number) in [
@@ -138,15 +90,17 @@ fn refusals() {
     ] {
         let answer = picked(layout, sector, first, second);
         assert_eq!(answer, Pick::Refused(number), "layout {layout}, sector {sector}");
+        tally.input();
+        tally.met(Row::Pick, number);
     }
     assert_eq!(picked(0, 26, &right, &right), Pick::First(1, &right[25 * 128..]));
-    println!("pick, refusals of the reference: 8 inputs compared");
+    tally.report();
 }
 
 #[test]
 fn any_numbers_and_lengths() {
     let mut rng = Rng::new(4);
-    let mut numbers = [0; 27];
+    let mut tally = Tally::new("pick", "any numbers and lengths");
     for track in tracks::EACH {
         let right = Call::new(&mut rng, track);
         let (area, sectors) = (right.first.len(), track.layout().sectors as u32);
@@ -165,15 +119,12 @@ fn any_numbers_and_lengths() {
                     _ if one != area || other != area => Some(5),
                     _ => None,
                 };
-                let outcome = compare(&mut rng, &call);
+                let outcome = compare(&mut tally, &mut rng, &call);
                 let expected = refusal.map_or(outcome, |number| (number, [0; 3]));
                 assert_eq!(outcome, expected, "layout {layout}, sector {sector}, areas of {one} and {other} bytes");
-                numbers[usize::from(outcome.0)] += 1;
             }
         }
     }
-    let [four, five, nine] = [4, 5, 9].map(|number: usize| numbers[number]);
-    let all: usize = numbers.iter().sum();
-    assert!(four > 0 && five > 0 && nine > 0 && four + five + nine < all, "numbers {numbers:?}");
-    println!("pick, any numbers and lengths: {all} inputs compared, [{four}, {five}, {nine}] for [4, 5, 9]");
+    tally.has_met(Row::Pick, &[4, 5, 9]);
+    tally.report();
 }

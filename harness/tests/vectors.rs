@@ -2,6 +2,7 @@
 use harness::reference::dump::{dump, dump_by};
 use harness::reference::plain;
 use harness::station;
+use harness::tally::Tally;
 use std::fs;
 use std::path::Path;
 
@@ -9,6 +10,7 @@ use std::path::Path;
 fn kept_vectors() {
     let folder = Path::new(env!("CARGO_MANIFEST_DIR")).join("../vectors");
     let index = fs::read_to_string(folder.join("INDEX")).expect("the list of vectors");
+    let mut tally = Tally::new("read", "kept vectors");
     for line in index.lines() {
         let place = folder.join(&line[..4]);
         let input = fs::read(place.with_extension("in")).expect("a vector's input");
@@ -16,6 +18,7 @@ fn kept_vectors() {
         assert_eq!(dump_by(station::read, &input), expected, "{line}");
         assert_eq!(dump(&input), expected, "reference: {line}");
         assert_eq!(dump_by(plain::read, &input), expected, "literal reader: {line}");
+        tally.input();
     }
-    println!("read, kept vectors: {} inputs compared", index.lines().count());
+    tally.report();
 }

@@ -3,6 +3,7 @@ pub mod damage;
 pub mod random;
 pub mod sketch;
 pub mod traps;
+pub mod worn;
 
 use crate::reference::coding::Mode;
 use crate::reference::format::format;
@@ -36,6 +37,12 @@ pub fn all() -> Vec<Track> {
         }
     }
     tracks
+}
+
+/// Any of them.
+pub fn any(rng: &mut Rng) -> Track {
+    let tracks = all();
+    tracks[rng.below(tracks.len())]
 }
 
 impl Track {

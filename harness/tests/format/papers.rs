@@ -1,9 +1,28 @@
 //! What the reference writes against the papers: its tracks are read again field by field. The library is not asked.
-use crate::calls::{tracks, Call, Layout, Track, LAYOUTS};
+use harness::compare::format::Call;
 use harness::reference::coding::{code, Mode};
 use harness::reference::edc::edc;
 use harness::reference::format::format;
 use harness::rng::Rng;
+use harness::tally::Tally;
+use harness::tracks::{self, Track};
+
+/// A row of 01's table, and from "Order on the track" the two gaps in which the layouts of one mode differ.
+struct Layout {
+    mode: Mode,
+    sectors: usize,
+    size: usize,
+    fourth: u8,
+    block_gap: usize,
+    track_gap: usize,
+}
+
+const LAYOUTS: [Layout; 4] = [
+    Layout { mode: Mode::Fm, sectors: 26, size: 128, fourth: 0x00, block_gap: 27, track_gap: 247 },
+    Layout { mode: Mode::Mfm, sectors: 26, size: 256, fourth: 0x01, block_gap: 54, track_gap: 598 },
+    Layout { mode: Mode::Mfm, sectors: 15, size: 512, fourth: 0x02, block_gap: 84, track_gap: 400 },
+    Layout { mode: Mode::Mfm, sectors: 8, size: 1_024, fourth: 0x03, block_gap: 116, track_gap: 654 },
+];
 
 /// What the reference writes for a call that it has to accept.
 fn written(call: &Call) -> Vec<u8> {
@@ -32,6 +51,7 @@ fn lengths_and_first_marks() {
     // the first data mark layouts 2 and 3 have the fields of layout 1
     let facts = [(0, 10_416, 158, 206), (1, 20_832, 316, 404), (2, 20_832, 316, 404), (3, 20_832, 316, 404)];
     let mut rng = Rng::new(3);
+    let mut tally = Tally::of_reference("format", "lengths and first marks");
     for (layout, length, identifier, data) in facts {
         let mut call = Call::new(&mut rng, Track { layout, cylinder: layout.min(1), side: 0 });
         call.marks[0] = 0xFB;
@@ -43,26 +63,28 @@ fn lengths_and_first_marks() {
         };
         assert_eq!(first(0xFE), Some(identifier), "first identifier mark of layout {layout}");
         assert_eq!(first(0xFB), Some(data), "first data mark of layout {layout}");
+        tally.input();
     }
-    println!("format, the reference's lengths and first marks: {} inputs compared", facts.len());
+    tally.report();
 }
 
 #[test]
 fn fields_clocks_and_edc() {
     const EACH: usize = 5;
     let mut rng = Rng::new(4);
-    let tracks = tracks();
-    for &track in &tracks {
+    let mut tally = Tally::of_reference("format", "tracks read again field by field");
+    for track in tracks::all() {
         for _ in 0..EACH {
             read_again(&Call::new(&mut rng, track));
+            tally.input();
         }
     }
-    println!("format, the reference's tracks read again: {} inputs compared", EACH * tracks.len());
+    tally.report();
 }
 
 /// Reads again what the reference writes for the call: 01, "Order on the track".
 fn read_again(call: &Call) {
-    let Layout { mode, sectors, size, fourth, block_gap, track_gap, .. } = LAYOUTS[call.track.layout as usize];
+    let Layout { mode, sectors, size, fourth, block_gap, track_gap } = LAYOUTS[call.track.layout as usize];
     let (gap, before_index, zeros, after_index, identifier_gap) = match mode {
         Mode::Fm => (0xFF, 40, 6, 26, 11),
         Mode::Mfm => (0x4E, 80, 12, 50, 22),

@@ -1,7 +1,12 @@
 //! Refused calls: each fault by itself, and which of several counts.
-use crate::calls::{compare, tracks, Call, Layout, Track, LAYOUTS};
+use harness::compare::format::{compare, Call};
+use harness::reference::layouts::LAYOUTS;
 use harness::rng::Rng;
 use harness::station;
+use harness::tally::met::Row;
+use harness::tally::Tally;
+use harness::tracks::{self, Track};
+use std::collections::BTreeSet;
 
 /// The order in which format refuses. No call can get 8, since every layout adds up to its image.
 const ORDER: [u8; 7] = [2, 3, 4, 1, 5, 6, 7];
@@ -47,10 +52,10 @@ impl Fault {
             Fault::Layout(layout) => {
                 call.track.layout = layout;
                 // the lengths follow, so that they are not wrong too
-                if let Some(Layout { sectors, size, image, .. }) = LAYOUTS.get(layout as usize) {
-                    call.data.resize(sectors * size, 0x44);
-                    call.marks.resize(*sectors, 0xFB);
-                    call.image.resize(*image, 0xC5);
+                if let Some(layout) = LAYOUTS.get(layout as usize) {
+                    call.data.resize(layout.area_bytes(), 0x44);
+                    call.marks.resize(layout.sectors, 0xFB);
+                    call.image.resize(layout.image_bytes(), 0xC5);
                 }
             }
             Fault::ImageLength(length) => call.image.resize(length, 0xC5),
@@ -75,7 +80,7 @@ fn set(bytes: &mut [u8], at: usize, byte: u8) {
 
 /// What can be wrong on a track: numbers next to the right ones, and right ones with a high bit that might get lost.
 fn faults(track: Track) -> Vec<Fault> {
-    let Layout { sectors, size, image, .. } = LAYOUTS[track.layout as usize];
+    let layout = track.layout();
     let high = |right: u32| [1 << 8 | right, 1 << 16 | right, 1 << 31 | right, u32::MAX];
     let lengths = |right: usize| [0, 1, right / 2, right - 1, right + 1, 2 * right];
     let mut faults = Vec::new();
@@ -88,9 +93,9 @@ fn faults(track: Track) -> Vec<Fault> {
     };
     let others = (0..=5).filter(|layout| !allowed.contains(layout));
     faults.extend(others.chain(high(track.layout)).map(Fault::Layout));
-    faults.extend(lengths(image).into_iter().chain([24_576]).map(Fault::ImageLength));
-    faults.extend(lengths(sectors * size).map(Fault::DataLength));
-    faults.extend(lengths(sectors).map(Fault::MarksLength));
+    faults.extend(lengths(layout.image_bytes()).into_iter().chain([24_576]).map(Fault::ImageLength));
+    faults.extend(lengths(layout.area_bytes()).map(Fault::DataLength));
+    faults.extend(lengths(layout.sectors).map(Fault::MarksLength));
     for slot in some_slots(track) {
         faults.extend([0x00, 0xF9, 0xFA, 0xFC, 0xFE, 0xFF].map(|mark| Fault::Mark(slot, mark)));
         if track.cylinder == 0 {
@@ -102,32 +107,32 @@ fn faults(track: Track) -> Vec<Fault> {
 
 /// The first, a middle and the last.
 fn some_slots(track: Track) -> [usize; 3] {
-    let sectors = LAYOUTS[track.layout as usize].sectors;
+    let sectors = track.layout().sectors;
     [0, sectors / 2, sectors - 1]
 }
 
 #[test]
 fn each_refusal_alone() {
     let mut rng = Rng::new(5);
-    let mut inputs = [0; ORDER.len()];
-    for track in tracks() {
+    let mut tally = Tally::new("format", "each refusal alone");
+    for track in tracks::all() {
         let right = Call::new(&mut rng, track);
         for fault in faults(track) {
             let mut call = right.clone();
             fault.spoil(&mut call);
-            assert_eq!(compare(&mut rng, &call), fault.number(), "{fault:?}: {call:?}");
-            inputs[fault.rank()] += 1;
+            assert_eq!(compare(&mut tally, &mut rng, &call), fault.number(), "{fault:?}: {call:?}");
         }
     }
-    let all: usize = inputs.iter().sum();
-    println!("format, each refusal alone: {all} inputs compared, {inputs:?} for {ORDER:?}");
+    tally.has_met(Row::Format, &ORDER);
+    tally.report();
 }
 
 #[test]
 fn two_faults_at_once() {
     let mut rng = Rng::new(6);
-    let mut inputs = [[0; ORDER.len()]; ORDER.len()];
-    let first_cylinder = tracks().into_iter().filter(|track| track.cylinder == 0);
+    let mut tally = Tally::new("format", "two faults at once");
+    let mut pairs = BTreeSet::new();
+    let first_cylinder = tracks::all().into_iter().filter(|track| track.cylinder == 0);
     for track in first_cylinder.chain([Track { layout: 2, cylinder: 37, side: 1 }]) {
         let right = Call::new(&mut rng, track);
         let faults = faults(track);
@@ -140,23 +145,21 @@ fn two_faults_at_once() {
                 let mut call = right.clone();
                 first.spoil(&mut call);
                 second.spoil(&mut call);
-                assert_eq!(compare(&mut rng, &call), first.number(), "{first:?} and {second:?}: {call:?}");
-                inputs[first.rank()][second.rank()] += 1;
+                assert_eq!(compare(&mut tally, &mut rng, &call), first.number(), "{first:?} and {second:?}: {call:?}");
+                pairs.insert((first.rank(), second.rank()));
             }
         }
     }
-    let all: usize = inputs.iter().flatten().sum();
-    let pairs = inputs.iter().flatten().filter(|&&inputs| inputs > 0).count();
-    assert_eq!(pairs, 7 * 6 / 2, "pairs of numbers");
-    println!("format, two faults at once: {all} inputs compared, {pairs} pairs of numbers");
+    assert_eq!(pairs.len(), 7 * 6 / 2, "pairs of numbers");
+    tally.report();
 }
 
 #[test]
 fn letter_d() {
     let mut rng = Rng::new(7);
-    let mut inputs = 0;
-    for track in tracks() {
-        let size = LAYOUTS[track.layout as usize].size;
+    let mut tally = Tally::new("format", "first bytes after either mark");
+    for track in tracks::all() {
+        let size = track.layout().size;
         let right = Call::new(&mut rng, track);
         for slot in some_slots(track) {
             for mark in [0xFB, 0xF8] {
@@ -167,53 +170,50 @@ fn letter_d() {
                     call.marks[slot] = mark;
                     call.data[slot * size] = first;
                     let number = if counts && first != 0x44 { 7 } else { 0 };
-                    assert_eq!(compare(&mut rng, &call), number, "{first:02X}: {call:?}");
-                    inputs += 1;
+                    assert_eq!(compare(&mut tally, &mut rng, &call), number, "{first:02X}: {call:?}");
                 }
             }
         }
     }
-    println!("format, first bytes after either mark: {inputs} inputs compared");
+    tally.report();
 }
 
 #[test]
 fn images_of_any_length() {
     let mut rng = Rng::new(8);
-    let mut inputs = 0;
+    let mut tally = Tally::new("format", "refused images of any length");
     let near = [10_416, 20_832, 24_576].into_iter().flat_map(|length| length - 2..=length + 2);
     let lengths: Vec<usize> = (0..=32).chain(near).chain([65_536]).collect();
-    for track in tracks() {
+    for track in tracks::all() {
         let right = Call::new(&mut rng, track);
         for &length in lengths.iter().filter(|&&length| length != right.image.len()) {
             for fault in [Fault::Cylinder(75), Fault::Side(2), Fault::Layout(4), Fault::ImageLength(length)] {
                 let mut call = right.clone();
                 fault.spoil(&mut call);
                 call.image = rng.bytes(length);
-                assert_eq!(compare(&mut rng, &call), fault.number(), "{fault:?}: {call:?}");
-                inputs += 1;
+                assert_eq!(compare(&mut tally, &mut rng, &call), fault.number(), "{fault:?}: {call:?}");
             }
         }
         let Track { layout, cylinder, side } = track;
         assert_eq!(station::format(layout, cylinder, side, &[], &[], &mut []), 1, "nothing lent: {right:?}");
-        inputs += 1;
+        tally.input();
     }
-    println!("format, refused images of any length: {inputs} inputs compared");
+    tally.report();
 }
 
 #[test]
 fn random_faults() {
     const INPUTS: usize = 2_000;
     let mut rng = Rng::new(9);
-    let tracks = tracks();
-    let mut answers = [0; 8];
+    let mut tally = Tally::new("format", "up to three random faults");
     for _ in 0..INPUTS {
-        let track = tracks[rng.below(tracks.len())];
+        let track = tracks::any(&mut rng);
         let mut call = Call::new(&mut rng, track);
         let faults = faults(track);
         for _ in 0..rng.below(4) {
             faults[rng.below(faults.len())].spoil(&mut call);
         }
-        answers[usize::from(compare(&mut rng, &call))] += 1;
+        compare(&mut tally, &mut rng, &call);
     }
-    println!("format, up to three random faults: {INPUTS} inputs compared, {answers:?} for 0 to 7");
+    tally.report();
 }

@@ -1,15 +1,16 @@
 //! Reading: the reference against a literal reader, and `station_read` against the reference.
-mod calls;
 mod damaged;
 mod literal;
 mod refusals;
 mod traps;
 
-use calls::{compare, Call, Outcome, Tally};
+use harness::compare::read::{compare, Call, Outcome};
 use harness::rng::Rng;
 use harness::station;
+use harness::tally::met::Row;
+use harness::tally::Tally;
 use harness::tracks::damage::shifted;
-use harness::tracks::{self, Track};
+use harness::tracks::{self, worn, Track};
 
 /// What has to be read from a track with these contents.
 fn expected(track: Track, data: &[u8], marks: &[u8]) -> Outcome {
@@ -22,101 +23,94 @@ fn expected(track: Track, data: &[u8], marks: &[u8]) -> Outcome {
 }
 
 /// Contents, formatted by the library, come back from it.
-fn round_trip(rng: &mut Rng, track: Track, data: &[u8], marks: &[u8]) -> Outcome {
+fn round_trip(tally: &mut Tally, rng: &mut Rng, track: Track, data: &[u8], marks: &[u8]) {
     let Track { layout, cylinder, side } = track;
     let mut image = vec![0; track.layout().image_bytes()];
     assert_eq!(station::format(layout, cylinder, side, data, marks, &mut image), 0, "{track:?}");
     let call = Call::new(track, image);
-    let outcome = compare(rng, &call);
+    let outcome = compare(tally, rng, &call);
     assert!(outcome == expected(track, data, marks), "{outcome:?} does not hold the contents: {call:?}");
-    outcome
 }
 
 #[test]
 fn formatted_tracks_read_back() {
     const RANDOM: usize = 10;
     let mut rng = Rng::new(1);
-    let mut tally = Tally::default();
+    let mut tally = Tally::new("read", "formatted tracks of every kind");
     for track in tracks::all() {
         for _ in 0..RANDOM {
             let (_, data, marks) = track.random(&mut rng);
-            tally.count(&round_trip(&mut rng, track, &data, &marks));
+            round_trip(&mut tally, &mut rng, track, &data, &marks);
         }
         // the same byte everywhere; 44 is the letter D, which cylinder 0 wants after a control mark
         for byte in [0x44, 0x00, 0xFF, 0x4E, 0xA1, 0xC2, 0xFE] {
             for mark in [0xFB, 0xF8].into_iter().filter(|&mark| track.cylinder > 0 || mark == 0xFB || byte == 0x44) {
                 let data = vec![byte; track.layout().area_bytes()];
-                tally.count(&round_trip(&mut rng, track, &data, &vec![mark; track.layout().sectors]));
+                round_trip(&mut tally, &mut rng, track, &data, &vec![mark; track.layout().sectors]);
             }
         }
     }
-    tally.report("formatted tracks of every kind");
+    tally.report();
 }
 
 #[test]
 fn every_track_reads_back() {
     let mut rng = Rng::new(2);
-    let mut tally = Tally::default();
+    let mut tally = Tally::new("read", "every track in each of its layouts");
     for cylinder in 0..=74 {
         for side in 0..=1 {
             let layouts = if cylinder == 0 { side..=side } else { 1..=3 };
             for layout in layouts {
                 let track = Track { layout, cylinder, side };
                 let (_, data, marks) = track.random(&mut rng);
-                tally.count(&round_trip(&mut rng, track, &data, &marks));
+                round_trip(&mut tally, &mut rng, track, &data, &marks);
             }
         }
     }
-    tally.report("every track in each of its layouts");
+    tally.report();
 }
 
 #[test]
 fn shifted_tracks() {
     let mut rng = Rng::new(3);
-    let mut tally = Tally::default();
+    let mut tally = Tally::new("read", "tracks shifted by 0 to 15 cells");
     for track in tracks::all() {
         for by in 0..16 {
             let (image, data, marks) = track.random(&mut rng);
             let call = Call::new(track, shifted(&mut rng, &image, by));
-            let outcome = compare(&mut rng, &call);
+            let outcome = compare(&mut tally, &mut rng, &call);
             assert!(outcome == expected(track, &data, &marks), "{outcome:?} after {by} cells: {call:?}");
-            tally.count(&outcome);
         }
     }
-    tally.report("tracks shifted by 0 to 15 cells");
+    tally.report();
 }
 
 #[test]
 fn two_turns() {
     let mut rng = Rng::new(4);
-    let mut tally = Tally::default();
+    let mut tally = Tally::new("read", "tracks captured for more than a turn");
     for track in tracks::all() {
-        let (image, ..) = track.random(&mut rng);
-        let both = image.repeat(2);
-        // as much as may be read: all of layout 0, of the others the first sectors twice
-        let length = both.len().min(24_576);
-        let outcome = compare(&mut rng, &Call::new(track, both[..length].to_vec()));
+        let call = Call::new(track, worn::two_turns(&mut rng, track));
+        let outcome = compare(&mut tally, &mut rng, &call);
         let again = if track == tracks::FM { 26 } else { 1 };
         assert!(outcome.answers[..again].iter().all(|&answer| answer == 22), "{outcome:?}: {track:?}");
-        tally.count(&outcome);
     }
-    tally.report("tracks captured for more than a turn");
+    tally.report();
 }
 
 #[test]
 fn foreign_tracks() {
     let mut rng = Rng::new(5);
-    let mut tally = Tally::default();
+    let mut tally = Tally::new("read", "another track than the one asked for");
     for track in tracks::all() {
         let (image, ..) = track.random(&mut rng);
         for asked in tracks::all().into_iter().filter(|&asked| asked != track) {
-            let outcome = compare(&mut rng, &Call::new(asked, image.clone()));
+            let outcome = compare(&mut tally, &mut rng, &Call::new(asked, image.clone()));
             if asked.mode() == track.mode() {
                 assert_eq!(outcome.counts, [0, track.layout().sectors as u32], "{asked:?} on {track:?}");
             }
-            tally.count(&outcome);
         }
     }
-    assert_eq!(tally.of(1) + tally.of(2), 0, "sectors read from another track");
-    tally.report("another track than the one asked for");
+    assert_eq!(tally.times(Row::Answer, 1) + tally.times(Row::Answer, 2), 0, "sectors read from another track");
+    tally.report();
 }

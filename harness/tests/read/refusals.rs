@@ -1,7 +1,10 @@
 //! Refused calls: each fault by itself, and which of several counts.
-use crate::calls::{agrees, compare, Call, Outcome};
+use harness::compare::read::{agrees, compare, Call, Outcome};
 use harness::rng::Rng;
+use harness::tally::met::Row;
+use harness::tally::Tally;
 use harness::tracks::{self, Track};
+use std::collections::BTreeSet;
 
 /// The order in which read refuses.
 const ORDER: [u8; 5] = [2, 3, 4, 1, 5];
@@ -70,31 +73,31 @@ fn faults(track: Track) -> Vec<Fault> {
 }
 
 /// Whatever was lent is zero then.
-fn is_refused(rng: &mut Rng, call: &Call, number: u8) {
-    agrees(call, &compare(rng, call), &Outcome::refused(number, call.area));
+fn is_refused(tally: &mut Tally, rng: &mut Rng, call: &Call, number: u8) {
+    agrees(call, &compare(tally, rng, call), &Outcome::refused(number, call.area));
 }
 
 #[test]
 fn each_refusal_alone() {
     let mut rng = Rng::new(40);
-    let mut inputs = [0; ORDER.len()];
+    let mut tally = Tally::new("read", "each refusal alone");
     for track in tracks::all() {
         let right = Call::new(track, track.random(&mut rng).0);
         for fault in faults(track) {
             let mut call = right.clone();
             fault.spoil(&mut call);
-            is_refused(&mut rng, &call, fault.number());
-            inputs[fault.rank()] += 1;
+            is_refused(&mut tally, &mut rng, &call, fault.number());
         }
     }
-    let all: usize = inputs.iter().sum();
-    println!("read, each refusal alone: {all} inputs compared, {inputs:?} for {ORDER:?}");
+    tally.has_met(Row::Read, &ORDER);
+    tally.report();
 }
 
 #[test]
 fn two_faults_at_once() {
     let mut rng = Rng::new(41);
-    let mut inputs = [[0; ORDER.len()]; ORDER.len()];
+    let mut tally = Tally::new("read", "two faults at once");
+    let mut pairs = BTreeSet::new();
     for track in tracks::all() {
         let right = Call::new(track, vec![0x4E; 100]);
         let faults = faults(track);
@@ -103,73 +106,69 @@ fn two_faults_at_once() {
                 let mut call = right.clone();
                 first.spoil(&mut call);
                 second.spoil(&mut call);
-                is_refused(&mut rng, &call, first.number());
-                inputs[first.rank()][second.rank()] += 1;
+                is_refused(&mut tally, &mut rng, &call, first.number());
+                pairs.insert((first.rank(), second.rank()));
             }
         }
     }
-    let all: usize = inputs.iter().flatten().sum();
-    let pairs = inputs.iter().flatten().filter(|&&inputs| inputs > 0).count();
-    assert_eq!(pairs, 5 * 4 / 2, "pairs of numbers");
-    println!("read, two faults at once: {all} inputs compared, {pairs} pairs of numbers");
+    assert_eq!(pairs.len(), 5 * 4 / 2, "pairs of numbers");
+    tally.report();
 }
 
 #[test]
 fn images_of_any_length() {
     let mut rng = Rng::new(42);
-    let mut inputs = 0;
+    let mut tally = Tally::new("read", "images of any length");
     for track in tracks::all() {
         for length in (0..=3).chain(24_574..=24_579) {
             let call = Call::new(track, rng.bytes(length));
-            let outcome = compare(&mut rng, &call);
+            let outcome = compare(&mut tally, &mut rng, &call);
             assert_eq!(outcome.number, u8::from(!(1..=24_576).contains(&length)), "{call:?}");
-            inputs += 1;
         }
     }
-    println!("read, images of any length: {inputs} inputs compared");
+    tally.report();
 }
 
 #[test]
 fn layouts_and_tracks() {
     let mut rng = Rng::new(43);
-    let (mut inputs, mut accepted) = (0, 0);
+    let mut tally = Tally::new("read", "layouts 0 to 5 on cylinders 0 to 76 and sides 0 to 2");
     for layout in 0..=5 {
         for cylinder in 0..=76 {
             for side in 0..=2 {
                 let mut call = Call::new(Track { layout: layout.min(3), cylinder, side }, vec![0x4E; 100]);
                 call.track.layout = layout;
-                accepted += usize::from(compare(&mut rng, &call).number == 0);
-                inputs += 1;
+                compare(&mut tally, &mut rng, &call);
             }
         }
     }
     // one layout on each side of cylinder 0, three on each side of the others
-    assert_eq!(accepted, 2 + 74 * 2 * 3, "accepted tracks");
-    println!("read, layouts 0 to 5, cylinders 0 to 76, sides 0 to 2: {inputs} inputs compared, {accepted} accepted");
+    assert_eq!(tally.times(Row::Read, 0), 2 + 74 * 2 * 3, "accepted tracks");
+    tally.report();
 }
 
 #[test]
 fn b15_areas_of_any_length_become_zero() {
     let mut rng = Rng::new(44);
-    let mut inputs = 0;
+    let mut tally = Tally::new("read", "areas of any length");
     for track in tracks::all() {
         let right = Call::new(track, track.random(&mut rng).0);
         let near = right.area - 20..right.area + 20;
         for area in (0..=64).chain(near).chain([50_000]).filter(|&area| area != right.area) {
-            is_refused(&mut rng, &Call { area, ..right.clone() }, 5);
-            inputs += 1;
+            is_refused(&mut tally, &mut rng, &Call { area, ..right.clone() }, 5);
         }
     }
-    println!("read, areas of any length: {inputs} inputs compared");
+    tally.report();
 }
 
 #[test]
 fn b16_layout_0_has_one_track() {
     let mut rng = Rng::new(45);
+    let mut tally = Tally::new("read", "layout 0 on other tracks");
     let image = tracks::FM.random(&mut rng).0;
     for (cylinder, side) in [(0, 1), (1, 0), (5, 0), (74, 1)] {
         let call = Call::new(Track { layout: 0, cylinder, side }, image.clone());
-        is_refused(&mut rng, &call, 4);
+        is_refused(&mut tally, &mut rng, &call, 4);
     }
-    println!("read, layout 0 on other tracks: 4 inputs compared");
+    tally.report();
 }

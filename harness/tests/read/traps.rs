@@ -1,27 +1,33 @@
 //! The traps of `harness::tracks::traps`, each with the outcome that 01 wants.
-use crate::calls::{agrees, compare, Call, Outcome};
+use harness::compare::read::{agrees, compare, Call, Outcome};
 use harness::rng::Rng;
+use harness::tally::Tally;
 use harness::tracks::damage::shifted;
 use harness::tracks::traps::{all, Trap};
 
 /// Springs the traps of a name: as they stand, and where nothing hangs on the image's end at every other cell too.
 fn spring(name: &str, count: usize) {
     let mut rng = Rng::new(20);
+    let mut tally = Tally::new("read", &format!("trap {name}"));
     let traps: Vec<Trap> = all().into_iter().filter(|trap| trap.name == name).collect();
     assert_eq!(traps.len(), count, "traps of the name {name}");
     for Trap { shows, track, image, answers, counts, area, .. } in traps {
-        let call = Call::new(track, image);
         let expected = Outcome { number: 0, answers, counts, area };
-        println!("read, {name}: {shows} ({track:?})");
-        agrees(&call, &compare(&mut rng, &call), &expected);
+        let mut images = vec![image];
         if !["B3", "B4", "B5", "B10", "B11", "B12"].contains(&name) {
-            for by in 1..16 {
-                let longer = [&call.image[..], &[0; 2]].concat();
-                let call = Call::new(track, shifted(&mut rng, &longer, by));
-                agrees(&call, &compare(&mut rng, &call), &expected);
+            let longer = [&images[0][..], &[0; 2]].concat();
+            images.extend((1..16).map(|by| shifted(&mut rng, &longer, by)));
+        }
+        for image in images {
+            let call = Call::new(track, image);
+            let found = compare(&mut tally, &mut rng, &call);
+            if found != expected {
+                println!("{shows}:");
             }
+            agrees(&call, &found, &expected);
         }
     }
+    tally.report();
 }
 
 #[test]

@@ -1,8 +1,10 @@
 //! An image, a mark or contents that are not the same in every step: each step goes by what it is handed.
-use crate::calls::{difference, Call, Sides};
 use crate::facts::{block_end, mark_bytes};
+use harness::compare::difference;
+use harness::compare::rewrite::{Call, Sides};
 use harness::reference::stores::stores;
 use harness::rng::Rng;
+use harness::tally::Tally;
 use harness::tracks::damage::turn;
 use harness::tracks::sketch::{Control, Data, Identifier, Index, Open};
 use harness::tracks::{self, Track, FM};
@@ -17,7 +19,7 @@ fn cut_behind(rng: &mut Rng, track: Track, behind: usize) -> (Call, u32) {
 #[test]
 fn d3_images_of_another_length() {
     let mut rng = Rng::new(70);
-    let mut inputs = 0;
+    let mut tally = Tally::new("step", "images of another length than the request's");
     for track in tracks::EACH {
         let (call, place) = cut_behind(&mut rng, track, 0);
         let (layout, data) = (track.layout, 2 * track.layout().size as u32);
@@ -56,46 +58,50 @@ fn d3_images_of_another_length() {
             }
             let mut sides = Sides::new(&mut rng, &image);
             let mut plan = [layout, place, made, data];
-            assert_eq!(sides.step(&mut plan, call.mark, &call.contents), number, "{made} stores made: {call:?}");
+            assert_eq!(
+                sides.step(&mut tally, &mut plan, call.mark, &call.contents),
+                number,
+                "{made} stores made: {call:?}"
+            );
             if number == 0 {
                 assert_eq!(plan, [layout, place, made + 1, all], "the plan: {call:?}");
                 assert!(sides.image()[at] != image[at], "the byte {at} after {made} stores: {call:?}");
             }
-            inputs += 1;
+            tally.input();
         }
     }
-    println!("step, images of another length than the request's: {inputs} inputs compared");
+    tally.report();
 }
 
 #[test]
 fn d4_another_mark_and_other_contents_in_each_step() {
     let mut rng = Rng::new(71);
-    let mut inputs = 0;
+    let mut tally = Tally::new("step", "another mark and other contents in each");
     for track in tracks::EACH {
         let (call, place) = cut_behind(&mut rng, track, 5);
-        let mut plan = call.plan(&mut rng);
+        let mut plan = call.plan(&mut tally, &mut rng);
         let (mut sides, mut listed) = (Sides::new(&mut rng, &call.image), call.image.clone());
         for made in 0..plan[3] as usize {
             // without the letter D on cylinder 0 too: a step does not know the cylinder
             let (mark, contents) = ([0xFB, 0xF8][rng.below(2)], rng.bytes(track.layout().size));
             let (at, octet) = stores(track.layout, &listed, place as usize, mark, &contents)[made];
             listed[at] = octet;
-            assert_eq!(sides.step(&mut plan, mark, &contents), 0, "after {made} stores: {call:?}");
+            assert_eq!(sides.step(&mut tally, &mut plan, mark, &contents), 0, "after {made} stores: {call:?}");
             sides.agree(&listed);
-            inputs += 1;
+            tally.input();
         }
     }
-    println!("step, another mark and other contents in each: {inputs} inputs compared");
+    tally.report();
 }
 
 #[test]
 fn d5_every_cell_of_the_mark() {
     let mut rng = Rng::new(72);
-    let mut inputs = 0;
+    let mut tally = Tally::new("step", "each cell of the mark turned over");
     for track in tracks::EACH {
         let mode = track.mode();
         let (mut call, place) = cut_behind(&mut rng, track, 5);
-        let (mark, all) = (place as usize / 8, call.plan(&mut rng)[3]);
+        let (mark, all) = (place as usize / 8, call.plan(&mut tally, &mut rng)[3]);
         for kind in [Data, Control, Open] {
             for cell in 0..8 * mark_bytes(track) {
                 let image = &mut call.image[mark..][..mark_bytes(track)];
@@ -106,24 +112,25 @@ fn d5_every_cell_of_the_mark() {
                 // in the midst of the rewrite and at its end, where 13 comes before 12
                 for (made, number) in [(0, 0), (7, 0), (all - 1, 0), (all, 12), (u32::MAX, 12)] {
                     let mut plan = [track.layout, place, made, all];
-                    let found = Sides::new(&mut rng, &call.image).step(&mut plan, call.mark, &call.contents);
+                    let found =
+                        Sides::new(&mut rng, &call.image).step(&mut tally, &mut plan, call.mark, &call.contents);
                     assert_eq!(found, if stands { number } else { 13 }, "{kind:?}, cell {cell}, {made} made: {call:?}");
-                    inputs += 1;
+                    tally.input();
                 }
             }
         }
     }
-    println!("step, each cell of the mark turned over: {inputs} inputs compared");
+    tally.report();
 }
 
 #[test]
 fn d6_another_mark_between_steps() {
     let mut rng = Rng::new(73);
-    let mut inputs = 0;
+    let mut tally = Tally::new("step", "another mark put there before each");
     for track in &tracks::EACH[..2] {
         let (call, place) = cut_behind(&mut rng, *track, 5);
         let mark = place as usize / 8;
-        let mut plan = call.plan(&mut rng);
+        let mut plan = call.plan(&mut tally, &mut rng);
         let (mut sides, all) = (Sides::new(&mut rng, &call.image), plan[3]);
         for made in 0..all {
             for kind in [Index, Identifier, Data, Control, Open] {
@@ -131,24 +138,24 @@ fn d6_another_mark_between_steps() {
                 sides.change(|image| image[mark..mark + octets.len()].copy_from_slice(octets));
                 let number = if [Index, Identifier].contains(&kind) { 13 } else { 0 };
                 plan[2] = made;
-                assert_eq!(sides.step(&mut plan, call.mark, &call.contents), number, "{kind:?}: {call:?}");
-                inputs += 1;
+                assert_eq!(sides.step(&mut tally, &mut plan, call.mark, &call.contents), number, "{kind:?}: {call:?}");
+                tally.input();
             }
         }
         // somebody else's marks are gone with the last store
         assert!(sides.image() == call.done(), "{}: {call:?}", difference(sides.image(), &call.done()));
     }
-    println!("step, another mark put there before each: {inputs} inputs compared");
+    tally.report();
 }
 
 #[test]
 fn other_bytes_changed_between_steps() {
     let mut rng = Rng::new(74);
-    let mut inputs = 0;
+    let mut tally = Tally::new("step", "another byte changed before each");
     for track in tracks::EACH {
         let (call, place) = cut_behind(&mut rng, track, 40);
         let (mark, from) = (place as usize / 8, place as usize / 8 + mark_bytes(track));
-        let mut plan = call.plan(&mut rng);
+        let mut plan = call.plan(&mut tally, &mut rng);
         let (mut sides, mut listed) = (Sides::new(&mut rng, &call.image), call.image.clone());
         for made in 0..plan[3] as usize {
             // anywhere but in the mark, before the block as well as in it and behind it
@@ -158,10 +165,14 @@ fn other_bytes_changed_between_steps() {
             listed[at] = octet;
             let (at, octet) = stores(track.layout, &listed, place as usize, call.mark, &call.contents)[made];
             listed[at] = octet;
-            assert_eq!(sides.step(&mut plan, call.mark, &call.contents), 0, "after {made} stores: {call:?}");
+            assert_eq!(
+                sides.step(&mut tally, &mut plan, call.mark, &call.contents),
+                0,
+                "after {made} stores: {call:?}"
+            );
             sides.agree(&listed);
-            inputs += 1;
+            tally.input();
         }
     }
-    println!("step, another byte changed before each: {inputs} inputs compared");
+    tally.report();
 }

@@ -1,37 +1,39 @@
 //! The supply cut after every number of stores: what the library reads then, and what a restart makes of it.
-use crate::calls::{difference, Call, Reading};
 use crate::facts::{block_end, mark_bytes};
 use crate::some_sectors;
+use harness::compare::difference;
+use harness::compare::rewrite::{Call, Reading};
 use harness::rng::Rng;
+use harness::tally::Tally;
 use harness::tracks::damage::{shifted, turn};
 use harness::tracks::sketch::{Control, Identifier, Sketch};
 use harness::tracks::{self, Track};
 
 /// Cuts the rewrite after every number of stores: nothing but the named sector reads otherwise, and that one as the
 /// papers want it.
-fn every_cut(rng: &mut Rng, call: &Call) -> usize {
-    let plan = call.plan(rng);
+fn every_cut(tally: &mut Tally, rng: &mut Rng, call: &Call) {
+    let plan = call.plan(tally, rng);
     let all = plan[3] as usize;
     let before = Reading::new(call.track, &call.image);
-    call.rewritten(rng, plan, |made, image| {
+    call.rewritten(tally, rng, plan, |made, image| {
         let expected = call.expected(&before, made, all);
         assert_eq!(Reading::new(call.track, image), expected, "read after {made} of {all} stores: {call:?}");
     });
-    all + 1
+    tally.inputs(all + 1);
 }
 
 #[test]
 fn formatted_tracks() {
     let mut rng = Rng::new(20);
-    let mut inputs = 0;
+    let mut tally = Tally::new("rewrite", "cut after every number of stores");
     for track in tracks::EACH {
         let (image, ..) = track.random(&mut rng);
         for sector in some_sectors(track) {
             let call = Call::new(&mut rng, track, sector, &image);
-            inputs += every_cut(&mut rng, &call);
+            every_cut(&mut tally, &mut rng, &call);
         }
     }
-    println!("rewrite, cut after every number of stores: {inputs} images read");
+    tally.report();
 }
 
 /// A worn track with bad and foreign identifiers, on which sector 3 can be rewritten.
@@ -55,7 +57,7 @@ fn worn(rng: &mut Rng, track: Track) -> Vec<u8> {
 #[test]
 fn worn_tracks() {
     let mut rng = Rng::new(22);
-    let mut inputs = 0;
+    let mut tally = Tally::new("rewrite", "worn tracks cut after every number of stores");
     for track in tracks::EACH {
         let image = worn(&mut rng, track);
         let by = 8 * (1 + rng.below(9));
@@ -63,36 +65,36 @@ fn worn_tracks() {
         let Reading { counts, .. } = Reading::new(track, &image);
         assert!(counts[0] > 0 && counts[1] > 0, "bad and foreign identifiers: {counts:?}, {track:?}");
         let call = Call::new(&mut rng, track, 3, &image);
-        inputs += every_cut(&mut rng, &call);
+        every_cut(&mut tally, &mut rng, &call);
     }
-    println!("rewrite, worn tracks cut after every number of stores: {inputs} images read");
+    tally.report();
 }
 
 /// Restarts the rewrite after every cut, with other contents: what the cut left makes no difference.
-fn every_restart(rng: &mut Rng, call: &Call) -> usize {
+fn every_restart(tally: &mut Tally, rng: &mut Rng, call: &Call) {
     let other = call.other(rng);
     let uncut = other.done();
-    let plan = call.plan(rng);
-    call.rewritten(rng, plan, |made, image| {
+    let plan = call.plan(tally, rng);
+    call.rewritten(tally, rng, plan, |made, image| {
         let restarted = Call { image: image.to_vec(), ..other.clone() }.done();
         assert!(restarted == uncut, "{}, restarted after {made} stores: {call:?}", difference(&restarted, &uncut));
     });
-    plan[3] as usize + 1
+    tally.inputs(plan[3] as usize + 1);
 }
 
 #[test]
 fn restarts() {
     let mut rng = Rng::new(24);
-    let mut inputs = 0;
+    let mut tally = Tally::new("rewrite", "restarted after every number of stores");
     for track in tracks::EACH {
         let (image, ..) = track.random(&mut rng);
         let worn = worn(&mut rng, track);
         for (sector, image) in [(track.layout().sectors, image), (3, worn)] {
             let call = Call::new(&mut rng, track, sector, &image);
-            inputs += every_restart(&mut rng, &call);
+            every_restart(&mut tally, &mut rng, &call);
         }
     }
-    println!("rewrite, restarted after every number of stores: {inputs} rewrites");
+    tally.report();
 }
 
 /// The image after some steps of the library.
@@ -109,36 +111,38 @@ fn cut(call: &Call, plan: [u32; 4], stores: usize) -> Vec<u8> {
 fn cut_again_and_again() {
     const INPUTS: usize = 200;
     let mut rng = Rng::new(25);
+    let mut tally = Tally::new("rewrite", "cut up to four times");
     for _ in 0..INPUTS {
-        let tracks = tracks::all();
-        let track = tracks[rng.below(tracks.len())];
+        let track = tracks::any(&mut rng);
         let (image, ..) = track.random(&mut rng);
         let sector = 1 + rng.below(track.layout().sectors);
         let mut call = Call::new(&mut rng, track, sector, &image);
         let last = call.other(&mut rng);
         for _ in 0..1 + rng.below(4) {
-            let plan = call.plan(&mut rng);
+            let plan = call.plan(&mut tally, &mut rng);
             let stores = rng.below(plan[3] as usize + 1);
             call.image = cut(&call, plan, stores);
             call = call.other(&mut rng);
         }
         let restarted = Call { image: call.image, ..last.clone() }.done();
         assert!(restarted == last.done(), "{}, cut again and again: {last:?}", difference(&restarted, &last.done()));
+        tally.input();
     }
-    println!("rewrite, cut up to four times: {INPUTS} inputs compared");
+    tally.report();
 }
 
 #[test]
 fn blocks_at_the_end() {
     let mut rng = Rng::new(26);
-    let mut inputs = 0;
+    let mut tally = Tally::new("rewrite", "blocks at the image's end cut and restarted");
     for track in &tracks::EACH[..2] {
         let sketch = Sketch::new(*track).gap(4).sector(2).identifier(1).gap(11).block(Control, 1);
         for behind in 0..2 {
             let image = sketch.clone().octets(&[0x12, 0x34][..behind]).image();
             let call = Call::new(&mut rng, *track, 1, &image);
-            inputs += every_cut(&mut rng, &call) + every_restart(&mut rng, &call);
+            every_cut(&mut tally, &mut rng, &call);
+            every_restart(&mut tally, &mut rng, &call);
         }
     }
-    println!("rewrite, blocks at the image's end, cut and restarted: {inputs} images compared");
+    tally.report();
 }

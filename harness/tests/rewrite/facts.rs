@@ -1,9 +1,10 @@
 //! Stores and their numbers, worked out by hand from 01, "Rewriting a sector" and "Small facts".
-use crate::calls::{Call, Reading, Sides};
 use crate::rewrite;
+use harness::compare::rewrite::{Call, Reading, Sides};
 use harness::reference::coding::Mode;
 use harness::reference::edc::edc;
 use harness::rng::Rng;
+use harness::tally::Tally;
 use harness::tracks::sketch::{contents, Data, Identifier, Sketch};
 use harness::tracks::{self, Track};
 
@@ -32,6 +33,7 @@ fn ending_in(rng: &mut Rng, track: Track, bit: u16) -> Vec<u8> {
 #[test]
 fn numbers_of_stores() {
     let mut rng = Rng::new(10);
+    let mut tally = Tally::new("request", "numbers of stores");
     // layout, with a byte after the block, without one
     let facts = [(0, 262, 262), (1, 519, 518), (2, 1_031, 1_030), (3, 2_055, 2_054)];
     for (layout, with, without) in facts {
@@ -40,15 +42,17 @@ fn numbers_of_stores() {
         let end = block_end(track, 2);
         for (length, stores) in [(image.len(), with), (end + 1, with), (end, without)] {
             let call = Call::new(&mut rng, track, 2, &image[..length]);
-            assert_eq!(call.plan(&mut rng)[3], stores, "{call:?}");
+            assert_eq!(call.plan(&mut tally, &mut rng)[3], stores, "{call:?}");
+            tally.input();
         }
     }
-    println!("rewrite, numbers of stores: {} inputs compared", 3 * facts.len());
+    tally.report();
 }
 
 #[test]
 fn first_and_last_stores() {
     let mut rng = Rng::new(11);
+    let mut tally = Tally::new("rewrite", "first and last stores");
     // layout, mark; what its last byte becomes first and last; the first data byte, which is 00
     let facts = [
         (0, 0xFB, [0x6B, 0x6F], [0xAA, 0xAA]),
@@ -63,23 +67,24 @@ fn first_and_last_stores() {
         let (image, ..) = track.random(&mut rng);
         let last = track.places(2).1 + mark_bytes(track) - 1;
         let call = Call { mark, contents: vec![0x00; track.layout().size], ..Call::new(&mut rng, track, 2, &image) };
-        let plan = call.plan(&mut rng);
+        let plan = call.plan(&mut tally, &mut rng);
         let mut first = Vec::new();
-        let image = call.rewritten(&mut rng, plan, |made, image| {
+        let image = call.rewritten(&mut tally, &mut rng, plan, |made, image| {
             if made == 1 {
                 first = image.to_vec();
             }
         });
         assert_eq!((first[last], image[last]), (open, closed), "first and last store: {call:?}");
         assert_eq!(image[last + 1..last + 3], data, "image bytes of the first data byte: {call:?}");
+        tally.input();
     }
-    println!("rewrite, first and last stores: {} inputs compared", facts.len());
+    tally.report();
 }
 
 #[test]
 fn d7_every_byte_behind_a_block() {
     let mut rng = Rng::new(12);
-    let mut inputs = 0;
+    let mut tally = Tally::new("step", "every byte behind a block");
     for track in &tracks::EACH[1..] {
         let (mut image, ..) = track.random(&mut rng);
         let (_, mark) = track.places(2);
@@ -90,7 +95,11 @@ fn d7_every_byte_behind_a_block() {
                 image[end] = octet;
                 let mut plan = [track.layout, 8 * mark as u32, all - 2, 0];
                 let mut sides = Sides::new(&mut rng, &image);
-                assert_eq!(sides.step(&mut plan, 0xFB, &contents), 0, "{octet:02X} behind a block: {track:?}");
+                assert_eq!(
+                    sides.step(&mut tally, &mut plan, 0xFB, &contents),
+                    0,
+                    "{octet:02X} behind a block: {track:?}"
+                );
                 // clock cell and data cell; the clock cell counts only where the data cell is 0
                 let expected = match (octet >> 6, bit) {
                     (0b00, 0) => octet + 0x80,
@@ -99,16 +108,17 @@ fn d7_every_byte_behind_a_block() {
                 };
                 assert_eq!(sides.image()[end], expected, "{octet:02X} after the bit {bit}: {track:?}");
                 assert_eq!(plan, [track.layout, 8 * mark as u32, all - 1, all], "the plan: {track:?}");
-                inputs += 1;
+                tally.input();
             }
         }
     }
-    println!("rewrite, every byte behind a block: {inputs} inputs compared");
+    tally.report();
 }
 
 #[test]
 fn noise_does_not_become_an_identifier() {
     let mut rng = Rng::new(13);
+    let mut tally = Tally::new("rewrite", "an identifier but for its first clock cell");
     for track in &tracks::EACH[1..] {
         let address = track.address(2);
         // behind the block a whole identifier, but for the mark's first clock cell
@@ -118,16 +128,18 @@ fn noise_does_not_become_an_identifier() {
         for bit in [0, 1] {
             let contents = ending_in(&mut rng, *track, bit);
             let call = Call { track: *track, sector: 1, mark: 0xFB, contents, image: image.clone() };
-            let last = rewrite(&mut rng, &call);
+            let last = rewrite(&mut tally, &mut rng, &call);
             assert_eq!(Reading::new(*track, &last).answers[..2], [1, 21], "after the bit {bit}: {track:?}");
+            tally.input();
         }
     }
-    println!("rewrite, an identifier but for its first clock cell: 6 rewrites compared, step by step");
+    tally.report();
 }
 
 #[test]
 fn d11_open_and_wrong_blocks() {
     let mut rng = Rng::new(14);
+    let mut tally = Tally::new("rewrite", "sectors that answer 25 and 26");
     for track in tracks::EACH {
         let (mut image, ..) = track.random(&mut rng);
         let last = |sector| track.places(sector).1 + mark_bytes(track) - 1;
@@ -137,20 +149,23 @@ fn d11_open_and_wrong_blocks() {
         assert_eq!(Reading::new(track, &image).answers[..2], [25, 26], "{track:?}");
         for sector in [1, 2] {
             let call = Call::new(&mut rng, track, sector, &image);
-            rewrite(&mut rng, &call);
+            rewrite(&mut tally, &mut rng, &call);
+            tally.input();
         }
     }
-    println!("rewrite, sectors that answer 25 and 26: 8 rewrites compared, step by step");
+    tally.report();
 }
 
 #[test]
 fn the_same_contents_change_nothing() {
     let mut rng = Rng::new(15);
+    let mut tally = Tally::new("rewrite", "what stands there already");
     for track in tracks::EACH {
         let image =
             track.formatted(&contents(track, 7).repeat(track.layout().sectors), &vec![0xFB; track.layout().sectors]);
         let call = Call { mark: 0xFB, contents: contents(track, 7), ..Call::new(&mut rng, track, 4, &image) };
-        assert!(rewrite(&mut rng, &call) == image, "the same once more: {call:?}");
+        assert!(rewrite(&mut tally, &mut rng, &call) == image, "the same once more: {call:?}");
+        tally.input();
     }
-    println!("rewrite, what stands there already: 4 rewrites compared, step by step");
+    tally.report();
 }

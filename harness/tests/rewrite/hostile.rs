@@ -1,8 +1,10 @@
 //! Requests and plans with any numbers: both sides take them all, and agree.
-use crate::calls::{Call, Sides};
 use crate::facts::block_end;
-use crate::refusals::LONGEST;
+use harness::compare::rewrite::{Call, Sides};
 use harness::rng::Rng;
+use harness::tally::met::Row;
+use harness::tally::Tally;
+use harness::tracks::worn::LONGEST;
 use harness::tracks::{self, Track};
 
 /// Half of all numbers, and the last of them.
@@ -37,7 +39,7 @@ fn plans(track: Track, image: &[u8]) -> Vec<[u32; 4]> {
 #[test]
 fn plans_with_any_numbers() {
     let mut rng = Rng::new(60);
-    let mut numbers = [0; 14];
+    let mut tally = Tally::new("step", "plans with any numbers");
     for track in tracks::EACH {
         let (image, ..) = track.random(&mut rng);
         let mut sides = Sides::new(&mut rng, &image);
@@ -45,21 +47,18 @@ fn plans_with_any_numbers() {
             // contents as the plan's layout wants them, if there is such a layout
             let size = tracks::EACH.get(plan[0] as usize).unwrap_or(&track).layout().size;
             let mark = [0xFB, 0xF8][rng.below(2)];
-            numbers[usize::from(sides.step(&mut plan, mark, &vec![rng.byte(); size]))] += 1;
+            sides.step(&mut tally, &mut plan, mark, &vec![rng.byte(); size]);
+            tally.input();
         }
     }
-    let came = [0, 4, 12, 13].iter().all(|&number| numbers[number] > 0);
-    assert!(came, "numbers {numbers:?}");
-    println!(
-        "step, plans with any numbers: {} inputs compared, {numbers:?} for 0 to 13",
-        numbers.iter().sum::<usize>()
-    );
+    tally.has_met(Row::Step, &[0, 4, 12, 13]);
+    tally.report();
 }
 
 #[test]
 fn images_of_any_length() {
     let mut rng = Rng::new(61);
-    let mut numbers = [0; 14];
+    let mut tally = Tally::new("step", "images of any length");
     for track in tracks::EACH {
         let (image, ..) = track.random(&mut rng);
         let end = block_end(track, 2);
@@ -73,19 +72,19 @@ fn images_of_any_length() {
                 let mut plan = plans[rng.below(plans.len())];
                 plan[0] = if rng.below(4) > 0 { track.layout } else { plan[0] };
                 let contents = vec![rng.byte(); track.layout().size];
-                numbers[usize::from(sides.step(&mut plan, 0xFB, &contents))] += 1;
+                sides.step(&mut tally, &mut plan, 0xFB, &contents);
+                tally.input();
             }
         }
     }
-    let came = [0, 1, 4, 5, 12, 13].iter().all(|&number| numbers[number] > 0);
-    assert!(came, "numbers {numbers:?}");
-    println!("step, images of any length: {} inputs compared, {numbers:?} for 0 to 13", numbers.iter().sum::<usize>());
+    tally.has_met(Row::Step, &[0, 1, 4, 5, 12, 13]);
+    tally.report();
 }
 
 #[test]
 fn every_place() {
     let mut rng = Rng::new(62);
-    let mut inputs = 0;
+    let mut tally = Tally::new("step", "every cell as the noted place");
     for track in &tracks::EACH[..2] {
         // two sectors
         let (image, ..) = track.random(&mut rng);
@@ -95,18 +94,18 @@ fn every_place() {
         for place in 0..8 * sides.image().len() + 200 {
             // a step that leaves the marks there
             let mut plan = [track.layout, place as u32, 3, 0];
-            let number = sides.step(&mut plan, 0xFB, &contents);
+            let number = sides.step(&mut tally, &mut plan, 0xFB, &contents);
             assert_eq!(number, if marks.contains(&place) { 0 } else { 13 }, "place {place}: {track:?}");
-            inputs += 1;
+            tally.input();
         }
     }
-    println!("step, every cell as the noted place: {inputs} inputs compared");
+    tally.report();
 }
 
 #[test]
 fn every_number_of_stores_made() {
     let mut rng = Rng::new(63);
-    let mut inputs = 0;
+    let mut tally = Tally::new("step", "every number of stores made");
     for track in &tracks::EACH[..2] {
         let (image, ..) = track.random(&mut rng);
         for behind in [0, 1] {
@@ -117,19 +116,19 @@ fn every_number_of_stores_made() {
             for made in 0..all + 20 {
                 let mut sides = Sides::new(&mut rng, image);
                 let mut plan = [track.layout, 8 * track.places(2).1 as u32, made as u32, 0];
-                let number = sides.step(&mut plan, 0xF8, &contents);
+                let number = sides.step(&mut tally, &mut plan, 0xF8, &contents);
                 assert_eq!(number, if made < all { 0 } else { 12 }, "{made} stores made: {track:?}");
-                inputs += 1;
+                tally.input();
             }
         }
     }
-    println!("step, every number of stores made: {inputs} inputs compared");
+    tally.report();
 }
 
 #[test]
 fn requests_with_any_numbers() {
     let mut rng = Rng::new(64);
-    let mut numbers = [0; 12];
+    let mut tally = Tally::new("request", "any numbers");
     let track = tracks::MFM;
     let (image, ..) = track.random(&mut rng);
     let right = Call::new(&mut rng, track, 2, &image[..block_end(track, 2)]);
@@ -137,10 +136,10 @@ fn requests_with_any_numbers() {
     for [layout, cylinder, side, sector] in combinations([&any, &any, &any, &any]) {
         for mark in [0, 0xF8, 0xFB, HALF | 0xFB, LAST] {
             let track = Track { layout, cylinder, side };
-            numbers[usize::from(Call { track, sector, mark, ..right.clone() }.request(&mut rng).0)] += 1;
+            Call { track, sector, mark, ..right.clone() }.request(&mut tally, &mut rng);
+            tally.input();
         }
     }
-    let came = [0, 2, 3, 4, 5, 6, 9, 10].iter().all(|&number| numbers[number] > 0);
-    assert!(came, "numbers {numbers:?}");
-    println!("request, any numbers: {} inputs compared, {numbers:?} for 0 to 11", numbers.iter().sum::<usize>());
+    tally.has_met(Row::Request, &[0, 2, 3, 4, 5, 6, 9, 10]);
+    tally.report();
 }

@@ -1,9 +1,12 @@
 //! The reference against the literal rewrite: is the fast one right? The library is not asked.
-use crate::calls::{difference, Call};
 use crate::facts::block_end;
+use harness::compare::difference;
+use harness::compare::rewrite::Call;
 use harness::reference::rewrite::{self, Plan};
 use harness::reference::stores;
 use harness::rng::Rng;
+use harness::tally::met::Row;
+use harness::tally::Tally;
 use harness::tracks::damage::shifted;
 use harness::tracks::{self, random, Track};
 
@@ -47,7 +50,7 @@ fn some_steps(rng: &mut Rng, call: &Call, plan: Plan) {
 #[test]
 fn formatted_sectors() {
     let mut rng = Rng::new(80);
-    let mut inputs = 0;
+    let mut tally = Tally::of_reference("rewrite", "formatted sectors");
     for track in tracks::EACH {
         for behind in [0, 1, 9] {
             // two sectors, a whole number of bytes later
@@ -60,42 +63,40 @@ fn formatted_sectors() {
                 all_steps(&call, plan);
             }
             some_steps(&mut rng, &call, plan);
-            inputs += 1;
+            tally.input();
         }
     }
-    println!("rewrite, the reference against the list of stores: {inputs} rewrites compared, step by step");
+    tally.report();
 }
 
 #[test]
 fn random_fields() {
     const INPUTS: usize = 250;
     let mut rng = Rng::new(81);
-    let mut numbers = [0; 12];
+    let mut tally = Tally::of_reference("rewrite", "random fields");
     for _ in 0..INPUTS {
-        let tracks = tracks::all();
-        let track = tracks[rng.below(tracks.len())];
+        let track = tracks::any(&mut rng);
         let (image, by) = (random::fields(&mut rng, track), rng.below(16));
         let image = shifted(&mut rng, &[&image[..], &[0; 2]].concat(), by);
         for sector in 1..=5 {
             let call = Call::new(&mut rng, track, sector, &image);
             let (number, plan) = request(&mut rng, &call);
-            numbers[usize::from(number)] += 1;
+            tally.met(Row::Request, number);
             if number == 0 {
                 some_steps(&mut rng, &call, plan);
             }
         }
+        tally.input();
     }
-    assert!([0, 10, 11].iter().all(|&number| numbers[number] > 0), "numbers {numbers:?}");
-    println!(
-        "rewrite, the reference against the list, random fields: {INPUTS} inputs compared, {numbers:?} for 0 to 11"
-    );
+    tally.has_met(Row::Request, &[0, 10, 11]);
+    tally.report();
 }
 
 #[test]
 fn any_numbers() {
     const INPUTS: usize = 2_500;
     let mut rng = Rng::new(82);
-    let mut numbers = [0; 14];
+    let mut tally = Tally::of_reference("step", "any numbers");
     let track = tracks::MFM;
     for track in [tracks::FM, track, Track { layout: 2, ..track }] {
         let (image, ..) = track.random(&mut rng);
@@ -113,12 +114,10 @@ fn any_numbers() {
             let (size, mark) = (any(size) as usize % 2_000, any(0xFB));
             let mut plan = [layout, place, rng.below(2 * size + 12) as u32, rng.bits() as u32];
             let contents = rng.bytes(size);
-            numbers[usize::from(step(&mut plan, mark, &contents, &mut image[..length]))] += 1;
+            tally.met(Row::Step, step(&mut plan, mark, &contents, &mut image[..length]));
+            tally.input();
         }
     }
-    assert!([0, 1, 4, 5, 6, 12, 13].iter().all(|&number| numbers[number] > 0), "numbers {numbers:?}");
-    println!(
-        "step, the reference against the list, any numbers: {} inputs compared, {numbers:?} for 0 to 13",
-        3 * INPUTS
-    );
+    tally.has_met(Row::Step, &[0, 1, 4, 5, 6, 12, 13]);
+    tally.report();
 }

@@ -1,12 +1,13 @@
 //! Refused requests: each fault by itself, and which of several counts.
-use crate::calls::{Call, Reading};
 use crate::facts::{block_end, mark_bytes};
+use harness::compare::rewrite::{Call, Reading};
 use harness::rng::Rng;
+use harness::tally::met::Row;
+use harness::tally::Tally;
 use harness::tracks::damage::{shifted, turn};
+use harness::tracks::worn::LONGEST;
 use harness::tracks::{self, Track};
-
-/// The longest image that is read or rewritten.
-pub const LONGEST: usize = 24_576;
+use std::collections::BTreeSet;
 
 /// The order in which a request is refused.
 const ORDER: [u8; 10] = [2, 3, 4, 1, 9, 5, 6, 7, 10, 11];
@@ -126,14 +127,14 @@ fn faults(right: &Call) -> Vec<Fault> {
 }
 
 /// Calls that are right, on every kind of track, of which three sectors are there.
-fn right_calls(rng: &mut Rng) -> Vec<Call> {
+fn right_calls(tally: &mut Tally, rng: &mut Rng) -> Vec<Call> {
     let tracks = [Track { layout: 1, cylinder: 0, side: 1 }].into_iter().chain(tracks::EACH);
     let mut calls = Vec::new();
     for track in tracks {
         let (image, ..) = track.random(rng);
         let sector = 1 + rng.below(3);
         let call = Call::new(rng, track, sector, &image[..track.places(4).0]);
-        assert_eq!(call.request(rng).0, 0, "{call:?}");
+        assert_eq!(call.request(tally, rng).0, 0, "{call:?}");
         calls.push(call);
     }
     calls
@@ -142,8 +143,8 @@ fn right_calls(rng: &mut Rng) -> Vec<Call> {
 #[test]
 fn each_refusal_alone() {
     let mut rng = Rng::new(40);
-    let mut inputs = [0; ORDER.len()];
-    for right in right_calls(&mut rng) {
+    let mut tally = Tally::new("request", "each refusal alone");
+    for right in right_calls(&mut tally, &mut rng) {
         for fault in faults(&right) {
             let mut call = right.clone();
             fault.spoil(&mut rng, &right, &mut call);
@@ -151,19 +152,20 @@ fn each_refusal_alone() {
                 let Reading { answers, .. } = Reading::new(call.track, &call.image);
                 assert_eq!(answers[call.sector as usize - 1], answer, "read: {call:?}");
             }
-            assert_eq!(call.request(&mut rng), (fault.number(), [0; 4]), "{fault:?}: {call:?}");
-            inputs[fault.rank()] += 1;
+            assert_eq!(call.request(&mut tally, &mut rng), (fault.number(), [0; 4]), "{fault:?}: {call:?}");
+            tally.input();
         }
     }
-    let all: usize = inputs.iter().sum();
-    println!("request, each refusal alone: {all} inputs compared, {inputs:?} for {ORDER:?}");
+    tally.has_met(Row::Request, &ORDER);
+    tally.report();
 }
 
 #[test]
 fn two_faults_at_once() {
     let mut rng = Rng::new(41);
-    let mut inputs = [[0; ORDER.len()]; ORDER.len()];
-    for right in right_calls(&mut rng) {
+    let mut tally = Tally::new("request", "two faults at once");
+    let mut pairs = BTreeSet::new();
+    for right in right_calls(&mut tally, &mut rng) {
         let faults = faults(&right);
         for &first in &faults {
             for &second in faults.iter().filter(|second| second.rank() > first.rank()) {
@@ -171,40 +173,39 @@ fn two_faults_at_once() {
                 first.spoil(&mut rng, &right, &mut call);
                 second.spoil(&mut rng, &right, &mut call);
                 let answer = (first.number(), [0; 4]);
-                assert_eq!(call.request(&mut rng), answer, "{first:?} and {second:?}: {call:?}");
-                inputs[first.rank()][second.rank()] += 1;
+                assert_eq!(call.request(&mut tally, &mut rng), answer, "{first:?} and {second:?}: {call:?}");
+                pairs.insert((first.rank(), second.rank()));
+                tally.input();
             }
         }
     }
-    let all: usize = inputs.iter().flatten().sum();
-    let pairs = inputs.iter().flatten().filter(|&&inputs| inputs > 0).count();
-    assert_eq!(pairs, 10 * 9 / 2, "pairs of numbers");
-    println!("request, two faults at once: {all} inputs compared, {pairs} pairs of numbers");
+    assert_eq!(pairs.len(), 10 * 9 / 2, "pairs of numbers");
+    tally.report();
 }
 
 #[test]
 fn letter_d() {
     let mut rng = Rng::new(42);
-    let mut inputs = 0;
-    for mut call in right_calls(&mut rng) {
+    let mut tally = Tally::new("request", "first bytes after either mark");
+    for mut call in right_calls(&mut tally, &mut rng) {
         for mark in [0xFB, 0xF8] {
             for first in 0..=0xFF {
                 (call.mark, call.contents[0]) = (mark, first);
                 let is_wrong = call.track.cylinder == 0 && mark == 0xF8 && first != 0x44;
-                let number = call.request(&mut rng).0;
+                let number = call.request(&mut tally, &mut rng).0;
                 assert_eq!(number, if is_wrong { 7 } else { 0 }, "{first:02X}: {call:?}");
-                inputs += 1;
+                tally.input();
             }
         }
     }
-    println!("request, first bytes after either mark: {inputs} inputs compared");
+    tally.report();
 }
 
 #[test]
 fn images_of_any_length() {
     let mut rng = Rng::new(43);
-    let mut inputs = 0;
-    for right in right_calls(&mut rng) {
+    let mut tally = Tally::new("request", "images of any length");
+    for right in right_calls(&mut tally, &mut rng) {
         for length in (0..=3).chain(LONGEST - 2..=LONGEST + 3) {
             let mut call = right.clone();
             call.image.resize(length, 0x92);
@@ -214,17 +215,18 @@ fn images_of_any_length() {
                 4..=LONGEST => 0,
                 _ => 1,
             };
-            assert_eq!(call.request(&mut rng).0, number, "{call:?}");
-            inputs += 1;
+            assert_eq!(call.request(&mut tally, &mut rng).0, number, "{call:?}");
+            tally.input();
         }
     }
-    println!("request, images of any length: {inputs} inputs compared");
+    tally.report();
 }
 
 #[test]
 fn layouts_tracks_and_sectors() {
     let mut rng = Rng::new(44);
-    let (mut inputs, mut accepted) = (0, 0);
+    let mut tally = Tally::new("request", "layouts 0 to 5 on cylinders 0 to 76 and sides 0 to 2");
+    let mut accepted = 0;
     for layout in 0..=5 {
         for cylinder in 0..=76 {
             for side in 0..=2 {
@@ -233,12 +235,12 @@ fn layouts_tracks_and_sectors() {
                 let mut call = Call::new(&mut rng, track, sector, &[0x4E; 100]);
                 call.track.layout = layout;
                 // 9 or 10 once the track is accepted
-                accepted += usize::from(call.request(&mut rng).0 >= 9);
-                inputs += 1;
+                accepted += usize::from(call.request(&mut tally, &mut rng).0 >= 9);
+                tally.input();
             }
         }
     }
     // one layout on each side of cylinder 0, three on each side of the others
     assert_eq!(accepted, 2 + 74 * 2 * 3, "accepted tracks");
-    println!("request, layouts 0 to 5, cylinders 0 to 76, sides 0 to 2: {inputs} inputs compared, {accepted} accepted");
+    tally.report();
 }

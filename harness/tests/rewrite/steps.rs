@@ -1,12 +1,15 @@
 //! Refused steps: each fault by itself, and which of several counts.
-use crate::calls::{Call, Sides};
 use crate::facts::{block_end, mark_bytes};
-use crate::refusals::LONGEST;
+use harness::compare::rewrite::{Call, Sides};
 use harness::reference::rewrite::Plan;
 use harness::rng::Rng;
+use harness::tally::met::Row;
+use harness::tally::Tally;
 use harness::tracks;
 use harness::tracks::damage::turn;
 use harness::tracks::sketch::{Identifier, Index, Kind};
+use harness::tracks::worn::LONGEST;
+use std::collections::BTreeSet;
 
 /// The order in which a step is refused.
 const ORDER: [u8; 6] = [4, 1, 5, 6, 13, 12];
@@ -20,9 +23,9 @@ struct Step {
 
 impl Step {
     /// What comes of it on both sides. A refusal has to leave the image as it was.
-    fn number(&self, rng: &mut Rng) -> u8 {
+    fn number(&self, tally: &mut Tally, rng: &mut Rng) -> u8 {
         let (mut sides, mut plan) = (Sides::new(rng, &self.call.image), self.plan);
-        let number = sides.step(&mut plan, self.call.mark, &self.call.contents);
+        let number = sides.step(tally, &mut plan, self.call.mark, &self.call.contents);
         if number != 0 {
             sides.agree(&self.call.image);
         }
@@ -121,17 +124,17 @@ fn faults(right: &Step) -> Vec<Fault> {
 }
 
 /// Steps that are right: the first and the last, and some in between.
-fn right_steps(rng: &mut Rng) -> Vec<Step> {
+fn right_steps(tally: &mut Tally, rng: &mut Rng) -> Vec<Step> {
     let mut steps = Vec::new();
     for track in tracks::EACH {
         let (image, ..) = track.random(rng);
         let sector = 1 + rng.below(track.layout().sectors);
         let call = Call::new(rng, track, sector, &image);
-        let plan = call.plan(rng);
+        let plan = call.plan(tally, rng);
         let between = rng.below(plan[3] as usize) as u32;
         for made in [0, 1, between, plan[3] - 2, plan[3] - 1] {
             let step = Step { call: call.clone(), plan: [plan[0], plan[1], made, plan[3]] };
-            assert_eq!(step.number(rng), 0, "{step:?}");
+            assert_eq!(step.number(tally, rng), 0, "{step:?}");
             steps.push(step);
         }
     }
@@ -141,47 +144,47 @@ fn right_steps(rng: &mut Rng) -> Vec<Step> {
 #[test]
 fn each_refusal_alone() {
     let mut rng = Rng::new(50);
-    let mut inputs = [0; ORDER.len()];
-    for right in right_steps(&mut rng) {
+    let mut tally = Tally::new("step", "each refusal alone");
+    for right in right_steps(&mut tally, &mut rng) {
         for fault in faults(&right) {
             let mut step = right.clone();
             fault.spoil(&mut step);
-            assert_eq!(step.number(&mut rng), fault.number(), "{fault:?}: {step:?}");
-            inputs[fault.rank()] += 1;
+            assert_eq!(step.number(&mut tally, &mut rng), fault.number(), "{fault:?}: {step:?}");
+            tally.input();
         }
     }
-    let all: usize = inputs.iter().sum();
-    println!("step, each refusal alone: {all} inputs compared, {inputs:?} for {ORDER:?}");
+    tally.has_met(Row::Step, &ORDER);
+    tally.report();
 }
 
 #[test]
 fn two_faults_at_once() {
     let mut rng = Rng::new(51);
-    let mut inputs = [[0; ORDER.len()]; ORDER.len()];
+    let mut tally = Tally::new("step", "two faults at once");
+    let mut pairs = BTreeSet::new();
     // of each layout one step, which is enough where two things are wrong
-    for right in right_steps(&mut rng).into_iter().step_by(5) {
+    for right in right_steps(&mut tally, &mut rng).into_iter().step_by(5) {
         let faults = faults(&right);
         for &first in &faults {
             for &second in faults.iter().filter(|second| second.rank() > first.rank()) {
                 let mut step = right.clone();
                 first.spoil(&mut step);
                 second.spoil(&mut step);
-                assert_eq!(step.number(&mut rng), first.number(), "{first:?} and {second:?}: {step:?}");
-                inputs[first.rank()][second.rank()] += 1;
+                assert_eq!(step.number(&mut tally, &mut rng), first.number(), "{first:?} and {second:?}: {step:?}");
+                pairs.insert((first.rank(), second.rank()));
+                tally.input();
             }
         }
     }
-    let all: usize = inputs.iter().flatten().sum();
-    let pairs = inputs.iter().flatten().filter(|&&inputs| inputs > 0).count();
-    assert_eq!(pairs, 6 * 5 / 2, "pairs of numbers");
-    println!("step, two faults at once: {all} inputs compared, {pairs} pairs of numbers");
+    assert_eq!(pairs.len(), 6 * 5 / 2, "pairs of numbers");
+    tally.report();
 }
 
 #[test]
 fn images_of_any_length() {
     let mut rng = Rng::new(52);
-    let mut inputs = 0;
-    for right in right_steps(&mut rng) {
+    let mut tally = Tally::new("step", "images of any length for any store");
+    for right in right_steps(&mut tally, &mut rng) {
         for length in (0..=3).chain(LONGEST - 2..=LONGEST + 3) {
             let mut step = right.clone();
             step.call.image.resize(length, 0x92);
@@ -191,9 +194,9 @@ fn images_of_any_length() {
                 4..=LONGEST => 0,
                 _ => 1,
             };
-            assert_eq!(step.number(&mut rng), number, "{step:?}");
-            inputs += 1;
+            assert_eq!(step.number(&mut tally, &mut rng), number, "{step:?}");
+            tally.input();
         }
     }
-    println!("step, images of any length: {inputs} inputs compared");
+    tally.report();
 }

@@ -1,9 +1,11 @@
 //! Calls of a reader, and how the two sides are held against each other on one of them.
-use harness::reference::dump::Reader;
-use harness::reference::read::read;
-use harness::rng::Rng;
-use harness::station;
-use harness::tracks::Track;
+use crate::reference::dump::Reader;
+use crate::reference::read::read;
+use crate::rng::Rng;
+use crate::station;
+use crate::tally::met::Row;
+use crate::tally::Tally;
+use crate::tracks::Track;
 use std::fmt;
 
 /// All that is handed to a reader but what it fills.
@@ -63,6 +65,16 @@ impl Outcome {
     pub fn refused(number: u8, area: usize) -> Outcome {
         Outcome { number, answers: [0; 26], counts: [0; 2], area: vec![0; area] }
     }
+
+    /// Counts one input with this outcome. Answers past the layout's count and those of a refused call are 0.
+    pub fn count(&self, tally: &mut Tally) {
+        tally.input();
+        tally.met(Row::Read, self.number);
+        self.answers.iter().filter(|&&answer| answer > 0).for_each(|&answer| tally.met(Row::Answer, answer));
+        let [bad, foreign] = self.counts.map(u64::from);
+        tally.met_times(Row::Identifier, 0, bad);
+        tally.met_times(Row::Identifier, 1, foreign);
+    }
 }
 
 impl fmt::Debug for Outcome {
@@ -85,9 +97,10 @@ impl fmt::Debug for Call {
 }
 
 /// Holds the library against the reference on one call, and hands back their outcome.
-pub fn compare(rng: &mut Rng, call: &Call) -> Outcome {
+pub fn compare(tally: &mut Tally, rng: &mut Rng, call: &Call) -> Outcome {
     let expected = call.outcome(rng, read);
     agrees(call, &call.outcome(rng, station::read), &expected);
+    expected.count(tally);
     expected
 }
 
@@ -98,43 +111,5 @@ pub fn agrees(call: &Call, found: &Outcome, expected: &Outcome) {
     let mut bytes = found.area.iter().zip(&expected.area).enumerate();
     if let Some((at, (found, expected))) = bytes.find(|(_, (found, expected))| found != expected) {
         panic!("byte {at} of the area is {found:02X}, not {expected:02X}: {call:?}");
-    }
-}
-
-/// How often each answer came: 0 for those past a layout's count and in refused calls.
-#[derive(Default)]
-pub struct Tally {
-    inputs: usize,
-    answers: [usize; 27],
-    bad: u32,
-    foreign: u32,
-}
-
-impl Tally {
-    pub fn count(&mut self, outcome: &Outcome) {
-        self.inputs += 1;
-        outcome.answers.iter().for_each(|&answer| self.answers[usize::from(answer)] += 1);
-        self.bad += outcome.counts[0];
-        self.foreign += outcome.counts[1];
-    }
-
-    /// How often an answer came.
-    pub fn of(&self, answer: usize) -> usize {
-        self.answers[answer]
-    }
-
-    /// Says what was compared, and that every answer came.
-    pub fn report_all(&self, name: &str) {
-        self.report(name);
-        assert!((1..=26).all(|answer| (3..=20).contains(&answer) || self.of(answer) > 0), "answers of {name}");
-        assert!(self.bad > 0 && self.foreign > 0, "counts of {name}");
-    }
-
-    pub fn report(&self, name: &str) {
-        let Tally { inputs, answers, bad, foreign } = self;
-        print!("read, {name}: {inputs} inputs compared;");
-        let came = answers.iter().enumerate().skip(1).filter(|(_, &times)| times > 0);
-        came.for_each(|(answer, times)| print!(" {answer}: {times},"));
-        println!(" identifiers {bad} bad, {foreign} foreign");
     }
 }

@@ -1,9 +1,12 @@
 //! Rewrites, and how the two sides are held against each other on one of them.
-use harness::reference::rewrite::{self, Plan, Request};
-use harness::reference::stores::stores;
-use harness::rng::Rng;
-use harness::station;
-use harness::tracks::Track;
+use super::{among_others, difference};
+use crate::reference::rewrite::{self, Plan, Request};
+use crate::reference::stores::stores;
+use crate::rng::Rng;
+use crate::station;
+use crate::tally::met::Row;
+use crate::tally::Tally;
+use crate::tracks::Track;
 use std::fmt;
 use std::ops::Range;
 
@@ -48,15 +51,16 @@ impl Call {
     }
 
     /// Holds the two sides against each other on the request.
-    pub fn request(&self, rng: &mut Rng) -> (u8, Plan) {
+    pub fn request(&self, tally: &mut Tally, rng: &mut Rng) -> (u8, Plan) {
         let expected = self.asked(rng, rewrite::request);
         assert_eq!(self.asked(rng, station::request), expected, "number and plan of the request: {self:?}");
+        tally.met(Row::Request, expected.0);
         expected
     }
 
     /// The plan of a request that both sides have to accept.
-    pub fn plan(&self, rng: &mut Rng) -> Plan {
-        let (number, plan) = self.request(rng);
+    pub fn plan(&self, tally: &mut Tally, rng: &mut Rng) -> Plan {
+        let (number, plan) = self.request(tally, rng);
         assert_eq!(number, 0, "refusal of the request: {self:?}");
         plan
     }
@@ -64,20 +68,26 @@ impl Call {
     /// The whole rewrite after an accepted request, by both sides and by the list of stores, which have to agree on the
     /// image and the plan after each step. `cut` gets each number of stores and the image with them. Hands back the
     /// last image.
-    pub fn rewritten(&self, rng: &mut Rng, plan: Plan, mut cut: impl FnMut(usize, &[u8])) -> Vec<u8> {
+    pub fn rewritten(
+        &self,
+        tally: &mut Tally,
+        rng: &mut Rng,
+        plan: Plan,
+        mut cut: impl FnMut(usize, &[u8]),
+    ) -> Vec<u8> {
         let [layout, place, _, all] = plan;
         let stores = stores(self.track.layout, &self.image, place as usize, self.mark, &self.contents);
         assert_eq!(plan, [self.track.layout, place, 0, stores.len() as u32], "the plan: {self:?}");
         let (mut sides, mut listed, mut now) = (Sides::new(rng, &self.image), self.image.clone(), plan);
         cut(0, &listed);
         for (made, (at, octet)) in (1..).zip(stores) {
-            assert_eq!(sides.step(&mut now, self.mark, &self.contents), 0, "step {made}: {self:?}");
+            assert_eq!(sides.step(tally, &mut now, self.mark, &self.contents), 0, "step {made}: {self:?}");
             listed[at] = octet;
             sides.agree(&listed);
             assert_eq!(now, [layout, place, made, all], "the plan after step {made}: {self:?}");
             cut(made as usize, &listed);
         }
-        assert_eq!(sides.step(&mut now, self.mark, &self.contents), 12, "a step after the last: {self:?}");
+        assert_eq!(sides.step(tally, &mut now, self.mark, &self.contents), 12, "a step after the last: {self:?}");
         sides.agree(&listed);
         listed
     }
@@ -150,7 +160,7 @@ impl Sides {
 
     /// A step on both sides, which have to agree on number, plan and image. A refused one has to leave the plan as it
     /// was.
-    pub fn step(&mut self, plan: &mut Plan, mark: u32, contents: &[u8]) -> u8 {
+    pub fn step(&mut self, tally: &mut Tally, plan: &mut Plan, mark: u32, contents: &[u8]) -> u8 {
         let (before, mut expected) = (*plan, *plan);
         let number = rewrite::step(&mut expected, mark, contents, &mut self.reference[self.part.clone()]);
         let found = station::step(plan, mark, contents, &mut self.ours[self.part.clone()]);
@@ -159,6 +169,7 @@ impl Sides {
         if !are_same(&self.ours, &self.reference) {
             panic!("{}, where the image is {:?}", difference(&self.ours, &self.reference), self.part);
         }
+        tally.met(Row::Step, number);
         number
     }
 
@@ -204,20 +215,4 @@ impl fmt::Debug for Reading {
     fn fmt(&self, f: &mut fmt::Formatter) -> fmt::Result {
         write!(f, "answers {:?}, counts {:?}", self.answers, self.counts)
     }
-}
-
-/// Where two images differ first.
-pub fn difference(found: &[u8], expected: &[u8]) -> String {
-    let mut bytes = found.iter().zip(expected).enumerate();
-    match bytes.find(|(_, (found, expected))| found != expected) {
-        Some((at, (found, expected))) => format!("byte {at} is {found:02X}, not {expected:02X}"),
-        None => format!("{} bytes, not {}", found.len(), expected.len()),
-    }
-}
-
-/// A copy of the bytes among others, and where it stands there: at any alignment.
-fn among_others(rng: &mut Rng, bytes: &[u8]) -> (Vec<u8>, Range<usize>) {
-    let from = rng.below(16);
-    let all = [&rng.bytes(from), bytes, &rng.bytes(16)].concat();
-    (all, from..from + bytes.len())
 }

@@ -1,0 +1,41 @@
+//! Tracks as a worn cartridge or a careless capture gives them.
+use super::damage::{damage, image_of, turn};
+use super::sketch::cells_of;
+use super::Track;
+use crate::rng::Rng;
+
+/// The longest image that is read or rewritten.
+pub const LONGEST: usize = 24_576;
+
+/// A formatted track with some cells turned over.
+pub fn turned(rng: &mut Rng, track: Track) -> Vec<u8> {
+    let (mut image, ..) = track.random(rng);
+    for _ in 0..1 + rng.below(40) {
+        let cell = rng.below(8 * image.len());
+        turn(&mut image, cell);
+    }
+    image
+}
+
+/// A formatted track with cells turned over, lost, put in and doubled.
+pub fn spoilt(rng: &mut Rng, track: Track) -> Vec<u8> {
+    let mut cells = cells_of(&track.random(rng).0);
+    (0..1 + rng.below(12)).for_each(|_| damage(rng, &mut cells));
+    cells.truncate(8 * LONGEST);
+    image_of(&cells)
+}
+
+/// A piece of a formatted track.
+pub fn cut(rng: &mut Rng, track: Track) -> Vec<u8> {
+    let (image, ..) = track.random(rng);
+    let from = rng.below(2) * rng.below(image.len());
+    let length = 1 + rng.below(image.len() - from);
+    image[from..from + length].to_vec()
+}
+
+/// As much of two turns as may be read: all of layout 0, of the others the first sectors twice.
+pub fn two_turns(rng: &mut Rng, track: Track) -> Vec<u8> {
+    let mut image = track.random(rng).0.repeat(2);
+    image.truncate(LONGEST);
+    image
+}
