@@ -18,10 +18,17 @@ use std::process::Command;
 fn main() {
     let machine = said_by("uname", &["-m"]);
     let native = machine == "x86_64";
-    let processor = if native { model() } else { format!("{machine}, emulating x86-64") };
-    println!("{}; {}; {processor}", env!("HARNESS_COMPILER"), said_by("rt", &["version"]));
+    let processor = if native { model() } else { format!("{} ({machine}), emulating x86-64", model()) };
+    println!("Rust: {}; Rattle: {}", env!("HARNESS_COMPILER"), said_by("rt", &["version"]));
+    println!("processor: {processor}");
 
     let with_time = native && !std::env::args().any(|word| word == "--steps");
+    let times = match (with_time, native) {
+        (true, _) => "and of time (the median of 21 pairs)",
+        (false, true) => "alone, as asked",
+        (false, false) => "alone: under an emulator a time says nothing",
+    };
+    println!("ratios Rattle / Rust of executed instructions {times}");
     edc(with_time);
     coding(with_time);
     data_byte(with_time);
@@ -31,17 +38,25 @@ fn main() {
     rewrite(with_time);
 }
 
-/// The first line that a program writes. Also under an emulator the program is the machine's own.
-fn said_by(program: &str, words: &[&str]) -> String {
+/// What a program writes. Also under an emulator the program is the machine's own.
+fn output(program: &str, words: &[&str]) -> String {
     let output = Command::new(program).args(words).output().map(|output| output.stdout).unwrap_or_default();
-    String::from_utf8_lossy(&output).lines().next().unwrap_or("unknown").to_string()
+    String::from_utf8_lossy(&output).into_owned()
 }
 
-/// The processor's name.
+/// The first line of it.
+fn said_by(program: &str, words: &[&str]) -> String {
+    output(program, words).lines().next().unwrap_or("unknown").to_string()
+}
+
+/// The processor's name: the kernel has one on x86-64; for Arm `lscpu` knows it by its numbers.
 fn model() -> String {
-    let processors = std::fs::read_to_string("/proc/cpuinfo").unwrap_or_default();
-    let name = processors.lines().find_map(|line| line.strip_prefix("model name")?.split(": ").nth(1));
-    name.unwrap_or("unknown").to_string()
+    let said = [output("cat", &["/proc/cpuinfo"]), output("lscpu", &[])];
+    let name = |line: &str| {
+        let (field, name) = line.split_once(':')?;
+        field.trim().eq_ignore_ascii_case("model name").then(|| name.trim().to_string())
+    };
+    said.iter().find_map(|said| said.lines().find_map(name)).unwrap_or_else(|| "unknown".to_string())
 }
 
 fn edc(with_time: bool) {
