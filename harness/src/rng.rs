@@ -7,6 +7,12 @@ impl Rng {
         Rng(seed)
     }
 
+    /// Other numbers for each round of a seed, whatever the rounds before it drew.
+    pub fn of_round(seed: u64, round: u64) -> Rng {
+        let rounds = Rng::new(seed).bits();
+        Rng::new(Rng::new(rounds.wrapping_add(round)).bits())
+    }
+
     /// The next 64 random bits.
     pub fn bits(&mut self) -> u64 {
         self.0 = self.0.wrapping_add(0x9E37_79B9_7F4A_7C15);

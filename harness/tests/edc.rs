@@ -79,13 +79,13 @@ for line in sys.stdin.read().splitlines():
 
 #[test]
 fn python_agrees() {
+    let mut tally = Tally::new("EDC", "random bytes against Python's crc_hqx");
     if !python_runs() {
-        println!("EDC against Python's crc_hqx: NOT RUN, there is no python3 that runs");
+        tally.not_run("there is no python3 that runs");
         return;
     }
     const INPUTS: usize = 5_000;
     let mut rng = Rng::new(3);
-    let mut tally = Tally::new("EDC", "random bytes against Python's crc_hqx");
     let inputs: Vec<Vec<u8>> = (0..INPUTS)
         .map(|_| {
             let length = rng.below(200);

@@ -8,13 +8,10 @@ use std::{env, fs};
 fn main() -> Result<(), Box<dyn Error>> {
     let notes = env::args_os().nth(1).ok_or("the file with the notes is wanted")?;
     let ledger = Ledger::from_notes(&fs::read_to_string(notes)?)?;
-    print!("compared, by kind of input:\n{ledger}");
-    match ledger.every_kind() {
-        Ok(met) => println!("{met}"),
-        Err(lacking) => {
-            println!("{lacking}");
-            exit(1)
-        }
+    println!("compared, by kind of input:\n{ledger}{}", ledger.met());
+    if let Some(lacking) = ledger.not_met() {
+        println!("{lacking}");
+        exit(1)
     }
     Ok(())
 }

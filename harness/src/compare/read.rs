@@ -66,6 +66,16 @@ impl Outcome {
         Outcome { number, answers: [0; 26], counts: [0; 2], area: vec![0; area] }
     }
 
+    /// That of a track with these contents, formatted.
+    pub fn of_contents(track: Track, data: &[u8], marks: &[u8]) -> Outcome {
+        let mut answers = [0; 26];
+        for (answer, &mark) in answers.iter_mut().zip(marks) {
+            *answer = if mark == 0xFB { 1 } else { 2 };
+        }
+        assert_eq!(marks.len(), track.layout().sectors);
+        Outcome { number: 0, answers, counts: [0; 2], area: data.to_vec() }
+    }
+
     /// Counts one input with this outcome. Answers past the layout's count and those of a refused call are 0.
     pub fn count(&self, tally: &mut Tally) {
         tally.input();

@@ -28,15 +28,20 @@ impl Ledger {
         Ok(ledger)
     }
 
-    /// The outcomes that were met, if all were that have to be.
-    pub fn every_kind(&self) -> Result<String, String> {
+    /// How many inputs were compared.
+    pub fn inputs(&self) -> u64 {
+        self.inputs.values().flat_map(BTreeMap::values).sum()
+    }
+
+    /// Says which answers and refusals were met.
+    pub fn met(&self) -> String {
+        format!("met: {}", self.met.statement())
+    }
+
+    /// Says what an input can reach and none did, if that is so.
+    pub fn not_met(&self) -> Option<String> {
         let missing = self.met.missing();
-        let met = format!("met: {}", self.met.statement());
-        if missing.is_empty() {
-            Ok(met)
-        } else {
-            Err(format!("{met}\nNOT MET: {}", missing.join(", ")))
-        }
+        (!missing.is_empty()).then(|| format!("NOT MET: {}", missing.join(", ")))
     }
 }
 

@@ -68,6 +68,16 @@ impl Tally {
     /// Says what was compared, and notes it for the whole run.
     pub fn report(&self) {
         println!("{self}");
+        self.take_note();
+    }
+
+    /// Says that a comparison could not be made, and notes it as one of no input.
+    pub fn not_run(&self, reason: &str) {
+        println!("{}: {} NOT RUN, {reason}", self.subject, self.kind);
+        self.take_note();
+    }
+
+    fn take_note(&self) {
         if let Some(notes) = env::var_os(NOTES) {
             let file = OpenOptions::new().create(true).append(true).open(notes);
             // in one piece: other tests write too
@@ -102,7 +112,7 @@ impl Display for Tally {
 }
 
 /// A number with a comma before each three digits.
-fn grouped(number: u64) -> String {
+pub fn grouped(number: u64) -> String {
     let digits = number.to_string();
     let mut said = String::new();
     for (at, digit) in digits.chars().enumerate() {

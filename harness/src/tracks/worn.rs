@@ -1,5 +1,5 @@
 //! Tracks as a worn cartridge or a careless capture gives them.
-use super::damage::{damage, image_of, turn};
+use super::damage::{self, damage, false_beginnings, image_of, turn};
 use super::sketch::cells_of;
 use super::Track;
 use crate::rng::Rng;
@@ -19,7 +19,13 @@ pub fn turned(rng: &mut Rng, track: Track) -> Vec<u8> {
 
 /// A formatted track with cells turned over, lost, put in and doubled.
 pub fn spoilt(rng: &mut Rng, track: Track) -> Vec<u8> {
-    let mut cells = cells_of(&track.random(rng).0);
+    let (image, ..) = track.random(rng);
+    wear(rng, &image)
+}
+
+/// The same done to an image.
+pub fn wear(rng: &mut Rng, image: &[u8]) -> Vec<u8> {
+    let mut cells = cells_of(image);
     (0..1 + rng.below(12)).for_each(|_| damage(rng, &mut cells));
     cells.truncate(8 * LONGEST);
     image_of(&cells)
@@ -38,4 +44,31 @@ pub fn two_turns(rng: &mut Rng, track: Track) -> Vec<u8> {
     let mut image = track.random(rng).0.repeat(2);
     image.truncate(LONGEST);
     image
+}
+
+/// A formatted track some cells later.
+pub fn shifted(rng: &mut Rng, track: Track) -> Vec<u8> {
+    let ((image, ..), by) = (track.random(rng), rng.below(64));
+    damage::shifted(rng, &image, by)
+}
+
+/// Random bytes.
+pub fn noise(rng: &mut Rng, _: Track) -> Vec<u8> {
+    let length = length(rng);
+    rng.bytes(length)
+}
+
+/// Random bytes in which marks begin everywhere and hardly one is whole.
+pub fn dense(rng: &mut Rng, track: Track) -> Vec<u8> {
+    let length = length(rng);
+    false_beginnings(rng, track.mode(), length)
+}
+
+/// Most often a small one.
+fn length(rng: &mut Rng) -> usize {
+    if rng.below(15) == 0 {
+        LONGEST
+    } else {
+        1 + rng.below(4_000)
+    }
 }

@@ -35,7 +35,7 @@ fn every_kind_of_track() {
 #[test]
 fn every_track() {
     let mut rng = Rng::new(2);
-    let mut tally = Tally::new("format", "layouts 0 to 4 on cylinders 0 to 76 and sides 0 to 2");
+    let mut tally = Tally::new("format", "any layout on any cylinder and side");
     for layout in 0..=4 {
         for cylinder in 0..=76 {
             for side in 0..=2 {

@@ -3,7 +3,7 @@ use harness::compare::read::{compare, Call};
 use harness::rng::Rng;
 use harness::tally::met::{Row, ANSWERS};
 use harness::tally::Tally;
-use harness::tracks::damage::{false_beginnings, image_of, turn};
+use harness::tracks::damage::{image_of, turn};
 use harness::tracks::sketch::cells_of;
 use harness::tracks::worn::{self, LONGEST};
 use harness::tracks::{self, any, random, Track};
@@ -82,30 +82,12 @@ fn every_end_of_a_sector() {
 
 #[test]
 fn noise() {
-    const INPUTS: usize = 1_500;
-    let mut rng = Rng::new(36);
-    let mut tally = Tally::new("read", "noise");
-    for input in 0..INPUTS {
-        let track = any(&mut rng);
-        let length = if input % 10 == 0 { LONGEST } else { 1 + rng.below(4_000) };
-        let image = rng.bytes(length);
-        compare(&mut tally, &mut rng, &Call::new(track, image));
-    }
-    tally.report();
+    compare_many(36, 1_500, "noise", worn::noise);
 }
 
 #[test]
 fn dense_false_beginnings() {
-    const INPUTS: usize = 2_000;
-    let mut rng = Rng::new(37);
-    let mut tally = Tally::new("read", "noise dense in beginnings of marks");
-    for input in 0..INPUTS {
-        let track = any(&mut rng);
-        let length = if input % 20 == 0 { LONGEST } else { 1 + rng.below(2_000) };
-        let image = false_beginnings(&mut rng, track.mode(), length);
-        compare(&mut tally, &mut rng, &Call::new(track, image));
-    }
-    tally.report();
+    compare_many(37, 2_000, "noise dense in beginnings of marks", worn::dense);
 }
 
 #[test]

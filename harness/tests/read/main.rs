@@ -12,16 +12,6 @@ use harness::tally::Tally;
 use harness::tracks::damage::shifted;
 use harness::tracks::{self, worn, Track};
 
-/// What has to be read from a track with these contents.
-fn expected(track: Track, data: &[u8], marks: &[u8]) -> Outcome {
-    let mut answers = [0; 26];
-    for (answer, &mark) in answers.iter_mut().zip(marks) {
-        *answer = if mark == 0xFB { 1 } else { 2 };
-    }
-    assert_eq!(marks.len(), track.layout().sectors);
-    Outcome { number: 0, answers, counts: [0; 2], area: data.to_vec() }
-}
-
 /// Contents, formatted by the library, come back from it.
 fn round_trip(tally: &mut Tally, rng: &mut Rng, track: Track, data: &[u8], marks: &[u8]) {
     let Track { layout, cylinder, side } = track;
@@ -29,7 +19,7 @@ fn round_trip(tally: &mut Tally, rng: &mut Rng, track: Track, data: &[u8], marks
     assert_eq!(station::format(layout, cylinder, side, data, marks, &mut image), 0, "{track:?}");
     let call = Call::new(track, image);
     let outcome = compare(tally, rng, &call);
-    assert!(outcome == expected(track, data, marks), "{outcome:?} does not hold the contents: {call:?}");
+    assert!(outcome == Outcome::of_contents(track, data, marks), "{outcome:?} does not hold the contents: {call:?}");
 }
 
 #[test]
@@ -79,7 +69,7 @@ fn shifted_tracks() {
             let (image, data, marks) = track.random(&mut rng);
             let call = Call::new(track, shifted(&mut rng, &image, by));
             let outcome = compare(&mut tally, &mut rng, &call);
-            assert!(outcome == expected(track, &data, &marks), "{outcome:?} after {by} cells: {call:?}");
+            assert!(outcome == Outcome::of_contents(track, &data, &marks), "{outcome:?} after {by} cells: {call:?}");
         }
     }
     tally.report();

@@ -132,7 +132,7 @@ fn images_of_any_length() {
 #[test]
 fn layouts_and_tracks() {
     let mut rng = Rng::new(43);
-    let mut tally = Tally::new("read", "layouts 0 to 5 on cylinders 0 to 76 and sides 0 to 2");
+    let mut tally = Tally::new("read", "any layout on any cylinder and side");
     for layout in 0..=5 {
         for cylinder in 0..=76 {
             for side in 0..=2 {

@@ -8,7 +8,7 @@ use harness::tracks::traps::{all, Trap};
 /// Springs the traps of a name: as they stand, and where nothing hangs on the image's end at every other cell too.
 fn spring(name: &str, count: usize) {
     let mut rng = Rng::new(20);
-    let mut tally = Tally::new("read", &format!("trap {name}"));
+    let mut tally = Tally::new("read", &format!("trap ({name})"));
     let traps: Vec<Trap> = all().into_iter().filter(|trap| trap.name == name).collect();
     assert_eq!(traps.len(), count, "traps of the name {name}");
     for Trap { shows, track, image, answers, counts, area, .. } in traps {

@@ -139,7 +139,7 @@ fn noise_does_not_become_an_identifier() {
 #[test]
 fn d11_open_and_wrong_blocks() {
     let mut rng = Rng::new(14);
-    let mut tally = Tally::new("rewrite", "sectors that answer 25 and 26");
+    let mut tally = Tally::new("rewrite", "open and wrong sectors");
     for track in tracks::EACH {
         let (mut image, ..) = track.random(&mut rng);
         let last = |sector| track.places(sector).1 + mark_bytes(track) - 1;

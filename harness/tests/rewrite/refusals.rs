@@ -225,7 +225,7 @@ fn images_of_any_length() {
 #[test]
 fn layouts_tracks_and_sectors() {
     let mut rng = Rng::new(44);
-    let mut tally = Tally::new("request", "layouts 0 to 5 on cylinders 0 to 76 and sides 0 to 2");
+    let mut tally = Tally::new("request", "any layout on any cylinder and side");
     let mut accepted = 0;
     for layout in 0..=5 {
         for cylinder in 0..=76 {

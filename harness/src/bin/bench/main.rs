@@ -10,6 +10,7 @@ use harness::reference::rewrite::{Request, Step};
 use harness::rng::Rng;
 use harness::station;
 use harness::tracks::damage::{false_beginnings, shifted};
+use harness::tracks::worn::LONGEST;
 use harness::tracks::{Track, EACH, FM, MFM};
 use measure::{hidden, Case};
 use std::cell::RefCell;
@@ -113,8 +114,6 @@ fn format(with_time: bool) {
 }
 
 fn read(with_time: bool) {
-    // as long as may be
-    const LONGEST: usize = 24_576;
     let rng = &mut Rng::new(5);
     for track in EACH {
         let (image, ..) = track.random(rng);

@@ -1,0 +1,139 @@
+//! The jobs of which each round does one.
+use crate::hostile;
+use harness::compare::read::Outcome;
+use harness::compare::rewrite::Reading;
+use harness::compare::{difference, format, pick, read, rewrite};
+use harness::reference::rewrite::{request, Plan};
+use harness::rng::Rng;
+use harness::tally::Tally;
+use harness::tracks::sketch::Data;
+use harness::tracks::worn::{self, LONGEST};
+use harness::tracks::{self, random, Track};
+
+/// Images, each by the kind of its track.
+type Image = fn(&mut Rng, Track) -> Vec<u8>;
+
+const IMAGES: [(&str, Image); 10] = [
+    ("clean tracks", |rng, track| track.random(rng).0),
+    ("tracks with cells turned over", worn::turned),
+    ("spoilt tracks", worn::spoilt),
+    ("shifted tracks", worn::shifted),
+    ("tracks of more than a turn", worn::two_turns),
+    ("cut tracks", worn::cut),
+    ("another track", |rng, _| tracks::any(rng).random(rng).0),
+    ("random fields", fields),
+    ("noise", worn::noise),
+    ("dense noise", worn::dense),
+];
+
+/// The few that are too long to be read are cut.
+fn fields(rng: &mut Rng, track: Track) -> Vec<u8> {
+    let mut image = random::fields(rng, track);
+    image.truncate(LONGEST);
+    image
+}
+
+/// The work of one round.
+pub fn any(rng: &mut Rng) -> Vec<Tally> {
+    match rng.below(10) {
+        0 => formatted(rng),
+        1..=4 => vec![captured(rng)],
+        5 | 6 => rewritten(rng),
+        7 => two_passes(rng),
+        _ => hostile::calls(rng),
+    }
+}
+
+/// Contents are formatted, and read back.
+fn formatted(rng: &mut Rng) -> Vec<Tally> {
+    let mut tallies = [("format", "random contents"), ("read", "tracks just formatted")].map(|(a, b)| Tally::new(a, b));
+    let track = tracks::any(rng);
+    let call = format::Call::new(rng, track);
+    assert_eq!(format::compare(&mut tallies[0], rng, &call), 0, "{call:?}");
+    let image = track.formatted(&call.data, &call.marks);
+    let outcome = read::compare(&mut tallies[1], rng, &read::Call::new(track, image));
+    let expected = Outcome::of_contents(track, &call.data, &call.marks);
+    assert!(outcome == expected, "{outcome:?} does not hold the contents: {call:?}");
+    tallies.into()
+}
+
+/// Some image is read.
+fn captured(rng: &mut Rng) -> Tally {
+    let (kind, image) = IMAGES[rng.below(IMAGES.len())];
+    let mut tally = Tally::new("read", kind);
+    let track = tracks::any(rng);
+    let call = read::Call::new(track, image(rng, track));
+    read::compare(&mut tally, rng, &call);
+    tally
+}
+
+/// A sector of some image is rewritten, cut after any store, read, and begun anew with other contents.
+fn rewritten(rng: &mut Rng) -> Vec<Tally> {
+    let (kind, image) = IMAGES[rng.below(IMAGES.len())];
+    let mut tallies = [Tally::new("rewrite", kind), Tally::new("read", "rewrites cut after any store")];
+    let track = tracks::any(rng);
+    let image = image(rng, track);
+    // most often one that can be found
+    let whole = Reading::new(track, &image).whole();
+    let sector = match whole.len() {
+        found if found > 0 && rng.below(4) > 0 => whole[rng.below(found)],
+        _ => 1 + rng.below(track.layout().sectors),
+    };
+    let mut call = rewrite::Call::new(rng, track, sector, &image);
+    noise_behind(rng, &mut call);
+    let whole = Reading::new(track, &call.image).whole();
+    let (number, plan) = call.request(&mut tallies[0], rng);
+    assert_eq!(number == 10, !whole.contains(&sector), "{number}, where {whole:?} are whole: {call:?}");
+    tallies[0].input();
+    if number == 0 {
+        cut_and_begun_anew(&mut tallies, rng, &call, plan);
+    }
+    tallies.into()
+}
+
+/// Puts a random byte right behind the block, if that is found: all gaps begin with the same cells.
+fn noise_behind(rng: &mut Rng, call: &mut rewrite::Call) {
+    let (number, [_, place, ..]) = call.asked(rng, request);
+    let mark = Data.image(call.track.mode()).len();
+    let end = place as usize / 8 + mark + 2 * (call.contents.len() + 2);
+    if number == 0 && end < call.image.len() {
+        call.image[end] = rng.byte();
+    }
+}
+
+fn cut_and_begun_anew([rewrites, reads]: &mut [Tally; 2], rng: &mut Rng, call: &rewrite::Call, plan: Plan) {
+    let all = plan[3] as usize;
+    let (cut, mut left) = (rng.below(all + 1), Vec::new());
+    call.rewritten(rewrites, rng, plan, |made, image| {
+        if made == cut {
+            left = image.to_vec();
+        }
+    });
+    read::compare(reads, rng, &read::Call::new(call.track, left.clone()));
+    let expected = call.expected(&Reading::new(call.track, &call.image), cut, all);
+    assert_eq!(Reading::new(call.track, &left), expected, "read after {cut} of {all} stores: {call:?}");
+    let other = call.other(rng);
+    let (uncut, anew) = (other.done(), rewrite::Call { image: left, ..other }.done());
+    assert!(anew == uncut, "{}, begun anew after {cut} stores: {call:?}", difference(&anew, &uncut));
+}
+
+/// A track is captured twice, and each sector is picked.
+fn two_passes(rng: &mut Rng) -> Vec<Tally> {
+    let mut tallies = [("read", "worn tracks captured twice"), ("pick", "sectors of worn tracks captured twice")]
+        .map(|(subject, kind)| Tally::new(subject, kind));
+    let track = tracks::any(rng);
+    let (image, ..) = track.random(rng);
+    let mut pass = || {
+        let call = read::Call::new(track, worn::wear(rng, &image));
+        read::compare(&mut tallies[0], rng, &call)
+    };
+    let (one, other) = (pass(), pass());
+    let (first, first_answers) = (one.area, one.answers);
+    let (second, second_answers) = (other.area, other.answers);
+    let mut call = pick::Call { layout: track.layout, sector: 0, first, first_answers, second, second_answers };
+    for sector in 1..=track.layout().sectors {
+        call.sector = sector as u32;
+        pick::compare(&mut tallies[1], rng, &call);
+    }
+    tallies.into()
+}
