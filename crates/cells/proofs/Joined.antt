@@ -156,6 +156,18 @@ wide-window a b d (suc (suc (suc (suc (suc (suc zero)))))) ha hb hd h = omega ar
 wide-window a b d (suc (suc (suc (suc (suc (suc (suc zero))))))) ha hb hd h = omega arith
 wide-window a b d (suc (suc (suc (suc (suc (suc (suc (suc k)))))))) ha hb hd h = absurd (omega arith)
 
+-- A fourth byte falls away.
+pub fourth-falls : (x e k : ℕ) → e < 256 → k < 8 → (x * 256 + e) / 2 ^ (16 - k) ≡ x / 2 ^ (8 - k)
+fourth-falls x e zero he h = omega arith
+fourth-falls x e (suc zero) he h = omega arith
+fourth-falls x e (suc (suc zero)) he h = omega arith
+fourth-falls x e (suc (suc (suc zero))) he h = omega arith
+fourth-falls x e (suc (suc (suc (suc zero)))) he h = omega arith
+fourth-falls x e (suc (suc (suc (suc (suc zero))))) he h = omega arith
+fourth-falls x e (suc (suc (suc (suc (suc (suc zero)))))) he h = omega arith
+fourth-falls x e (suc (suc (suc (suc (suc (suc (suc zero))))))) he h = omega arith
+fourth-falls x e (suc (suc (suc (suc (suc (suc (suc (suc k)))))))) he h = absurd (omega arith)
+
 -- The data byte that begins k cells into the byte `at`, as the code reads it: a, b and d are the three image bytes, w the sixteen cells.
 pub data-read : (s : List ℕ) (at k a b d w : ℕ) → k < 8 → a < 256 → b < 256 → d < 256
     → a ≡ getD s at 0 → b ≡ getD s (at + 1) 0 → d ≡ getD s (at + 2) 0

@@ -49,13 +49,14 @@ pub fn octet(image: &[u8], place: usize) -> u8
     window(byte_or_zero(image, at), 0, place % 8)
 }
 
-// The sixteen cells that begin `shift` cells into three image bytes.
-fn wide_window(first: u8, second: u8, third: u8, shift: usize) -> u16
+// The sixteen cells that begin `shift` cells into three image bytes. A fourth comes with them, so that all are loaded at once, and falls away.
+fn wide_window(first: u8, second: u8, third: u8, fourth: u8, shift: usize) -> u16
     requires { ⌜ shift < 8 ⌝ }
     ensures { λ r. ⌜ r ≡ (first * 65536 + second * 256 + third) / 2 ^ (8 - shift) % 65536 ⌝ }
 {
-    let all = (first as u32) * 65536 + (second as u32) * 256 + (third as u32);
-    ((all >> (8 - shift)) % 65536) as u16
+    let upper = (first as u32) * 16777216 + (second as u32) * 65536;
+    let all = upper + (third as u32) * 256 + (fourth as u32);
+    ((all >> (16 - shift)) % 65536) as u16
 }
 
 // The data cells of two octets, put together in bits 3 to 6 of each. Each step lays the cells over themselves, one and two places up, and
@@ -76,18 +77,24 @@ fn together(cells: u16) -> u8
     (both * 17 / 128 % 256) as u8
 }
 
-// The data byte of the sixteen cells that begin `shift` cells into the image byte `at`. One test tells that all three bytes are there; else
-// the third is 0.
+// The data byte of the sixteen cells that begin `shift` cells into the image byte `at`. One test tells that all bytes are there.
 fn byte_from(image: &[u8], at: usize, shift: usize) -> u8
-    requires { ⌜ (shift < 8) × (at + 2 < 2 ^ 64) ⌝ }
+    requires { ⌜ (shift < 8) × (at + 3 < 2 ^ 64) ⌝ }
     ensures { λ r. ⌜ r ≡ dataByte (cell (now (image .entry))) (8 * at + shift) ⌝ }
 {
-    if at + 2 < image.len() {
-        return together(wide_window(image[at], image[at + 1], image[at + 2], shift));
+    if at + 3 < image.len() {
+        return together(wide_window(
+            image[at],
+            image[at + 1],
+            image[at + 2],
+            image[at + 3],
+            shift,
+        ));
     }
     together(wide_window(
         byte_or_zero(image, at),
         byte_or_zero(image, at + 1),
+        byte_or_zero(image, at + 2),
         0,
         shift,
     ))
@@ -150,7 +157,7 @@ fn fill_by_words(image: &[u8], at: usize, shift: usize, bytes: &mut [u8])
 
 // The same whatever the image has. Past its end `from` stays: all that follows is 0.
 fn fill_by_bytes(image: &[u8], at: usize, shift: usize, bytes: &mut [u8])
-    requires { ⌜ (shift < 8) × (at + 2 < 2 ^ 64) ⌝ }
+    requires { ⌜ (shift < 8) × (at + 3 < 2 ^ 64) ⌝ }
     ensures { λ _. ⌜ now (bytes .exit) ≡ dataBytes (cell (now (image .entry))) (8 * at + shift) (length (now (bytes .entry))) ⌝ }
 {
     let mut from = at;

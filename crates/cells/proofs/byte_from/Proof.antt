@@ -1,9 +1,8 @@
--- `byte_from` meets its contract: the three bytes joined have the sixteen cells, and where the test fails the third is 0.
+-- `byte_from` meets its contract: the three bytes joined have the sixteen cells.
 use denote.Ref.{now}
-use mathlib.Core.Path.{refl, sym, _∙_}
+use mathlib.Core.Path.{refl, _∙_}
 use Prim.Native.Nat.{_+_}
 use native.Mathlib.Omega.{arith}
-use lib.ListN.{List·getD-eq-default}
 use borrow.Author.Needs.{needs}
 use Rattle.cells.proofs.Joined.{data-read}
 use Rattle.cells.proofs.byte_from.Statement.{statement}
@@ -27,6 +26,12 @@ add-wide-window-2 c = search needs
 shared-slice-read-wide-window-3 : tie.Need-shared-slice-read-wide-window-3
 shared-slice-read-wide-window-3 c = search needs
 
+add-wide-window-3 : tie.Need-add-wide-window-3
+add-wide-window-3 c = search needs
+
+shared-slice-read-wide-window-4 : tie.Need-shared-slice-read-wide-window-4
+shared-slice-read-wide-window-4 c = search needs
+
 wide-window-requires : tie.Need-wide-window-requires
 wide-window-requires c κs = search needs
 
@@ -35,7 +40,7 @@ together-requires c κs = search needs
 
 returns : tie.Need-returns
 returns c =
-    let l = c .before .before .before .before .before .before in
+    let l = c .before .before .before .before .before .before .before in
     let a = l .before .args in
     c .together .ensures
     ∙ data-read (now (a .image)) (a .at) (a .shift) _ _ _ (c .before .wide-window .result) (l .before .pre .0)
@@ -51,6 +56,12 @@ add-byte-or-zero c = search needs
 byte-or-zero-requires-2 : tie.Need-byte-or-zero-requires-2
 byte-or-zero-requires-2 c κs = search needs
 
+add-byte-or-zero-2 : tie.Need-add-byte-or-zero-2
+add-byte-or-zero-2 c = search needs
+
+byte-or-zero-requires-3 : tie.Need-byte-or-zero-requires-3
+byte-or-zero-requires-3 c κs = search needs
+
 wide-window-requires-2 : tie.Need-wide-window-requires-2
 wide-window-requires-2 c κs = search needs
 
@@ -59,13 +70,16 @@ together-requires-2 c κs = search needs
 
 returns-2 : tie.Need-returns-2
 returns-2 c =
-    let b = c .before .before in
-    let s = b .before .before .before .before in
+    let third = c .before .before in
+    let second = third .before in
+    let first = second .before in
+    let s = first .before .before .before in
     let a = s .args in
     c .together2 .ensures
-    ∙ data-read (now (a .image)) (a .at) (a .shift) (b .before .byte-or-zero .result) (b .byte-or-zero2 .result) 0 (c .before .wide-window2 .result) (s .pre .0)
+    ∙ data-read (now (a .image)) (a .at) (a .shift) (first .byte-or-zero .result) (second .byte-or-zero2 .result) (third .byte-or-zero3 .result)
+    (c .before .wide-window2 .result) (s .pre .0)
     (omega arith) (omega arith) (omega arith)
-    (b .before .byte-or-zero .ensures) (b .byte-or-zero2 .ensures) (sym (List·getD-eq-default (now (a .image)) 0 (b .before .before .if1 .left)))
+    (first .byte-or-zero .ensures) (second .byte-or-zero2 .ensures) (third .byte-or-zero3 .ensures)
     (c .before .wide-window2 .ensures)
 
 pub byte-from-spec : {M : Type 1} → statement M
@@ -78,12 +92,16 @@ byte-from-spec =
     shared-slice-read-wide-window-2
     add-wide-window-2
     shared-slice-read-wide-window-3
+    add-wide-window-3
+    shared-slice-read-wide-window-4
     wide-window-requires
     together-requires
     returns
     byte-or-zero-requires
     add-byte-or-zero
     byte-or-zero-requires-2
+    add-byte-or-zero-2
+    byte-or-zero-requires-3
     wide-window-requires-2
     together-requires-2
     returns-2)

@@ -18,19 +18,19 @@ use Rattle.cells.proofs.fill_by_bytes.Tie as tie
 module _ (s : List ℕ) (from next k n : ℕ) where
   -- The bytes from the next place on are those that follow.
   abbrev Onward : Type 0
-  Onward = (next + 2 < 2 ^ 64) × (dataBytes (cell s) (8 * from + k + 16) n ≡ dataBytes (cell s) (8 * next + k) n)
+  Onward = (next + 3 < 2 ^ 64) × (dataBytes (cell s) (8 * from + k + 16) n ≡ dataBytes (cell s) (8 * next + k) n)
 
   moves : length s < 2 ^ 63 → from < length s → next ≡ from + 2 → Onward
   moves m h e =
       let f : 8 * from + k + 16 ≡ 8 * next + k = omega arith in
       (omega arith, rw f)
 
-  rests : from + 2 < 2 ^ 64 → length s ≤ from → next ≡ from → Onward
+  rests : from + 3 < 2 ^ 64 → length s ≤ from → next ≡ from → Onward
   rests m h e = (omega arith, stays s (8 * from + k + 16) (8 * next + k) n (omega arith) (omega arith))
 
 abbrev Inv-loop : tie.InvT-loop
 Inv-loop image at shift bytes₀ from₀ i₀ bytes from i =
-    (i ≤ length bytes₀) × (length bytes ≡ length bytes₀) × (from + 2 < 2 ^ 64)
+    (i ≤ length bytes₀) × (length bytes ≡ length bytes₀) × (from + 3 < 2 ^ 64)
     × (sets bytes₀ 0 (dataBytes (cell image) (8 * at + shift) (length bytes₀)) ≡ sets bytes i (dataBytes (cell image) (8 * from + shift) (length bytes₀ - i)))
 
 abbrev μ-loop : tie.MeasureT-loop
