@@ -31,6 +31,9 @@ cast-print-line c = search needs
 print-line-requires : tie.Need-print-line-requires Inv-loop μ-loop
 print-line-requires c κs = search needs
 
+returns : tie.Need-returns Inv-loop μ-loop
+returns c = search needs
+
 add-index : tie.Need-add-index Inv-loop μ-loop
 add-index c = search needs
 
@@ -40,8 +43,8 @@ loop-less c = search needs
 loop-again : tie.Need-loop-again Inv-loop μ-loop
 loop-again c = search needs
 
-returns : tie.Need-returns Inv-loop μ-loop
-returns c = search needs
+returns-2 : tie.Need-returns-2 Inv-loop μ-loop
+returns-2 c = search needs
 
 pub print-answers-spec : {M : Type 1} → statement M
 print-answers-spec =
@@ -56,7 +59,8 @@ print-answers-spec =
     add-print-line
     cast-print-line
     print-line-requires
+    returns
     add-index
     loop-less
     loop-again
-    returns)
+    returns-2)
