@@ -2,8 +2,9 @@
 # usage: examples/run.sh: builds both examples, runs them on samples/, and compares what they print with examples/expected/
 # Exit status 77: the compiler that this machine lacks cannot be had; nothing was compared.
 set -eu
-examples=$(cd "$(dirname "$0")" && pwd -P) here=$examples/../harness
-. "$here/setup.sh"
+me=examples/run.sh root=$(dirname "$(dirname "$(readlink -f "$0")")") examples=$root/examples
+. "$root/bin/kit.sh"
+. "$root/harness/setup.sh"
 ready_for_c || exit
 out=$here/target/examples && mkdir -p "$out"
 compile_c -std=c99 -Wall -Wextra -pedantic -Werror -I"$root/include" "$examples/c/main.c" "$archive" -o "$out/in-c"

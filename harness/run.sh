@@ -1,17 +1,37 @@
 #!/bin/sh
-# usage, all of it the Rattle library from Rust and from C, native on x86-64, emulated on Arm:
-#        harness/run.sh [test]: all comparisons, with the inputs by kind and the answers and refusals that were met; it fails
-#            where two sides differ, and where one of those numbers was not met
-#        harness/run.sh test WORDS..: those comparisons in Rust that have such a word in their names
-#        harness/run.sh c: each exported function from C
-#        harness/run.sh soak SEED ROUNDS: random comparisons for as long as one likes; soak SEED ROUND --only repeats a round
-#        harness/run.sh bench [--steps]: the ratios Rattle / Rust of executed instructions and, on x86-64, of time
-#        harness/run.sh vectors: writes vectors/ and samples/ anew, by the reference alone
-#        harness/run.sh peers make|compare FOLDER: for bin/peers
-# Exit status 77: the compiler that this machine lacks cannot be had; nothing was compared, or nothing in C.
+# The Rattle library from Rust and from C, native on x86-64, emulated on Arm: comparisons, long run, benchmark. `harness/run.sh --help` says more.
 set -eu
-here=$(cd "$(dirname "$0")" && pwd -P)
-. "$here/setup.sh"
+usage() {
+    cat <<'END'
+usage, all of it the Rattle library from Rust and from C, native on x86-64, emulated on Arm:
+       harness/run.sh [test]: all comparisons, with the inputs by kind and the answers and refusals that were met; it fails
+           where two sides differ, and where one of those numbers was not met
+       harness/run.sh test WORDS..: those comparisons in Rust that have such a word in their names
+       harness/run.sh c: each exported function from C
+       harness/run.sh soak SEED ROUNDS: random comparisons for as long as one likes; soak SEED ROUND --only repeats a round
+       harness/run.sh bench [--steps]: the ratios Rattle / Rust of executed instructions and, on x86-64, of time
+       harness/run.sh vectors: writes vectors/ and samples/ anew, by the reference alone
+       harness/run.sh peers make|compare FOLDER: for bin/peers
+Exit status 2: wrong words, or a build that failed. 77: the compiler that this machine lacks cannot be had; nothing was compared,
+or nothing in C.
+END
+}
+me=harness/run.sh root=$(dirname "$(dirname "$(readlink -f "$0")")")
+. "$root/bin/kit.sh"
+
+wrong_words() { # WORDS..
+    say "there is nothing to run by: $*"
+    usage >&2
+    exit 2
+}
+what=${1:-test} && [ $# -eq 0 ] || shift
+case $what:$# in
+-h:0 | --help:0) usage && exit ;;
+test:* | c:0 | soak:2 | soak:3 | bench:0 | vectors:0 | peers:2) ;;
+bench:1) [ "$1" = --steps ] || wrong_words "$what" "$@" ;;
+*) wrong_words "$what" "$@" ;;
+esac
+. "$root/harness/setup.sh"
 export RUST_TEST_NOCAPTURE=1 # each test says how much it compared
 
 c_test() { # 77 where there is no compiler for it
@@ -28,7 +48,7 @@ c_test() { # 77 where there is no compiler for it
 rust_tests() { # WORDS..
     export HARNESS_TALLY="$here/target/tally" # the tests note there what they met
     rm -f "$HARNESS_TALLY"
-    cargo test --offline --tests --target $target "$@"
+    cargo test --offline --tests --target $target -- "$@"
 }
 
 program() { # NAME WORDS..
@@ -37,10 +57,12 @@ program() { # NAME WORDS..
     exec cargo run --quiet --offline --release --target $target --bin "$name" -- "$@"
 }
 
-what=${1:-test} && [ $# -eq 0 ] || shift
 case $what in
 test)
     if [ $# -gt 0 ]; then
+        # a word that is in no name would pass for want of tests
+        names=$(cargo test --quiet --offline --tests --target $target -- --list "$@") || give_up "the comparisons could not be built"
+        echo "$names" | grep -q ': test$' || give_up "no comparison has a name with $*"
         rust_tests "$@"
         echo "not all of the tests: whether every kind was met is not looked at"
         exit
@@ -53,7 +75,6 @@ test)
     exit $in_c
     ;;
 c) c_test ;;
-soak | bench | peers) program "$what" "$@" ;;
 vectors) program vectors "$root" ;;
-*) sed -n '2,/^# Exit/s/^# \{0,8\}//p' "$0" >&2; exit 2 ;;
+*) program "$what" "$@" ;;
 esac

@@ -1,23 +1,21 @@
-# Sourced by harness/run.sh and examples/run.sh, which set `here` to this directory. It builds the library where it has to be built, and makes
-# compilers, linker and emulator ready: a program is for x86-64, native there and emulated on Arm.
+# Sourced by harness/run.sh and examples/run.sh, which set `root` and `me` and have sourced bin/kit.sh. It builds the library where it has to be
+# built, and makes compilers, linker and emulator ready: a program is for x86-64, native there and emulated on Arm.
 # Exit status 77: the compiler that this machine lacks cannot be had; nothing was compared.
-name=station target=x86_64-unknown-linux-gnu root=$(cd "$here/.." && pwd -P)
-kit=$(dirname "$(dirname "$(rt doc)")")
-archive=$root/target/staticlib/lib$name.a tools=$kit/on/$(uname -m)/toolchain/bin
-cd "$root"
-# rt staticlib proves the crate again at each call: only where something is newer than the archive
-if [ ! -e "$archive" ] || [ -n "$(find crates crates.txt -newer "$archive" -type f)" ]; then rt staticlib $name; fi
+here=$root/harness target=x86_64-unknown-linux-gnu archive=$root/target/staticlib/libstation.a
+find_kit
+build library station || exit
 cd "$here"
 export CARGO_HOME="$here/target/home" # cargo's locks and notes stay here too
 if [ "$(uname -m)" != x86_64 ]; then
-    cross=$here/.cross lib=$kit/toolchain/lib w=${RUST_DEB--web}
+    cross=$here/.cross lib=$libraries w=${RUST_DEB--web}
     if [ ! -e "$cross/rust/done" ]; then # Debian's compiler, with the libraries for both processors: unpacked, not installed
+        say "fetching Debian's Rust compiler for x86-64, some 120 MB, into $cross; nothing is installed"
         rm -rf "$cross/rust" "$cross/deb" && mkdir -p "$cross/rust" "$cross/deb" "$cross/lib"
         needs() { apt-cache depends "$1" | sed -n "s/^ *Depends: \($2[0-9.]*\)\$/\1/p"; }
         std=$(needs libstd-rust$w-dev libstd-rust$w-)
         (cd "$cross/deb" && apt-get -qq -o APT::Sandbox::User=root download \
             rustc$w $std libstd-rust$w-dev libstd-rust$w-dev:amd64 $(needs $std libllvm)) ||
-            { echo "no compiler could be fetched; as root, once: dpkg --add-architecture amd64 && apt-get update" >&2; exit 77; }
+            { say "no compiler could be fetched; as root, once: dpkg --add-architecture amd64 && apt-get update" && exit 77; }
         for deb in "$cross"/deb/*.deb; do dpkg -x "$deb" "$cross/rust"; done
         rm -r "$cross/deb" && : >"$cross/rust/done"
     fi
@@ -38,14 +36,15 @@ if [ "$(uname -m)" != x86_64 ]; then
     unset RUST_BACKTRACE || : # a backtrace opens the same file
 fi
 
-# The C library's headers for x86-64, unpacked and not installed; gives 77 where there is no compiler or they cannot be fetched.
+# The headers of the C library and of the system for x86-64, unpacked and not installed; gives 77 where there is no compiler or they cannot be fetched.
 ready_for_c() {
-    cc --version >/dev/null 2>&1 || { echo "there is no C compiler (cc)" >&2; return 77; }
-    [ "$(uname -m)" != x86_64 ] && [ ! -e "$cross/c/done" ] || return 0
+    cc --version >/dev/null 2>&1 || { say "there is no C compiler (cc)" && return 77; }
+    [ "$(uname -m)" != x86_64 ] && [ ! -e "$cross/c/usr/include/linux/errno.h" ] || return 0
+    say "fetching C headers for x86-64 from Debian (libc6-dev, linux-libc-dev) into $cross; nothing is installed"
     rm -rf "$cross/c" && mkdir -p "$cross/c" &&
-        (cd "$cross/c" && apt-get -qq -o APT::Sandbox::User=root download libc6-dev:amd64 && dpkg -x libc6-dev_*.deb . && rm libc6-dev_*.deb) ||
-        { echo "no C headers could be fetched; as root, once: dpkg --add-architecture amd64 && apt-get update" >&2; return 77; }
-    : >"$cross/c/done"
+        (cd "$cross/c" && apt-get -qq -o APT::Sandbox::User=root download libc6-dev:amd64 linux-libc-dev:amd64 &&
+            dpkg -x libc6-dev_*.deb . && dpkg -x linux-libc-dev_*.deb . && rm ./*.deb) ||
+        { say "no C headers could be fetched; as root, once: dpkg --add-architecture amd64 && apt-get update" && return 77; }
 }
 
 # The kit's clang comes without headers of its own: cc's have stddef.h and its like. WORDS are those of any C compiler.
@@ -58,7 +57,4 @@ compile_c() { if [ "$(uname -m)" = x86_64 ]; then cc "$@"; else kit_clang "$@"; 
 compile_rust() { # WORDS..: one file by plain rustc, without cargo
     set -- --edition 2021 -L "native=$(dirname "$archive")" "$@"
     if [ "$(uname -m)" = x86_64 ]; then rustc "$@"; else "$RUSTC" --target $target -C "linker=$cross/x86-clang" "$@"; fi
-}
-run_program() { # PROGRAM WORDS..
-    if [ "$(uname -m)" = x86_64 ]; then "$@"; else "$tools/qemu-x86_64" "$lib/ld-linux-x86-64.so.2" --library-path "$lib" "$@"; fi
 }
