@@ -1,4 +1,4 @@
-//! Links the archive that `rt staticlib station` wrote, and notes which compiler builds the Rust side.
+//! Says where the archive is that `rt staticlib station` wrote and include/station.rs links, and notes which compiler builds the Rust side.
 use std::env;
 use std::error::Error;
 use std::path::Path;
@@ -11,7 +11,6 @@ fn main() -> Result<(), Box<dyn Error>> {
         return Err("there is no target/staticlib/libstation.a yet: harness/run.sh makes it".into());
     }
     println!("cargo:rustc-link-search=native={folder}");
-    println!("cargo:rustc-link-lib=static=station");
     // without this line cargo keeps the old code when the archive changes
     println!("cargo:rerun-if-changed={archive}");
 

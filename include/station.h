@@ -89,6 +89,29 @@ enum station_answer {
     STATION_ANSWER_WRONG_EDC = 26
 };
 
+/*
+ * The table above in numbers, by layout: the sectors, the bytes of a sector, N, and of a formatted track's image. Sectors times bytes is the
+ * length of an area. Then the most of each for an area that is to take every layout, and for an image that is read or rewritten.
+ */
+enum station_size {
+    STATION_LAYOUTS = 4,
+    STATION_SECTORS_0 = 26,
+    STATION_SECTORS_1 = 26,
+    STATION_SECTORS_2 = 15,
+    STATION_SECTORS_3 = 8,
+    STATION_BYTES_0 = 128,
+    STATION_BYTES_1 = 256,
+    STATION_BYTES_2 = 512,
+    STATION_BYTES_3 = 1024,
+    STATION_IMAGE_0 = 10416,
+    STATION_IMAGE_1 = 20832,
+    STATION_IMAGE_2 = 20832,
+    STATION_IMAGE_3 = 20832,
+    STATION_MOST_SECTORS = 26,
+    STATION_LONGEST_AREA = 8192,
+    STATION_LONGEST_IMAGE = 24576
+};
+
 /* The marks that a sector may be given: of a data record, and of a control record. */
 enum station_mark {
     STATION_MARK_DATA = 0xFB,

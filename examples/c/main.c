@@ -5,49 +5,69 @@
  *     target/example samples/worn.in
  *
  * The file has the layout, the cylinder and the side, one byte each, and then the track's image.
+ * Exit status: 0 all was printed; 1 a call was refused; 2 wrong words, or a file that can't be read or written.
  */
 #include "station.h"
 
+#include <errno.h>
 #include <stdio.h>
 #include <string.h>
 
-enum { LONGEST_IMAGE = 24576, LONGEST_AREA = 8192 };
+static const struct {
+    size_t sectors, bytes;
+} LAYOUTS[STATION_LAYOUTS] = {
+    {STATION_SECTORS_0, STATION_BYTES_0},
+    {STATION_SECTORS_1, STATION_BYTES_1},
+    {STATION_SECTORS_2, STATION_BYTES_2},
+    {STATION_SECTORS_3, STATION_BYTES_3},
+};
 
-static const size_t SECTORS[4] = {26, 26, 15, 8}, SIZES[4] = {128, 256, 512, 1024};
+enum { BYTES = STATION_BYTES_1, AREA = STATION_SECTORS_1 * STATION_BYTES_1 };
 
 /* Large, so not on the stack. The library itself keeps nothing: all that it works on is lent by the caller. */
-static uint8_t file[3 + LONGEST_IMAGE + 1], area[LONGEST_AREA], image[20832];
+static uint8_t file[3 + STATION_LONGEST_IMAGE + 1], area[STATION_LONGEST_AREA], image[STATION_IMAGE_1];
 
 /* Only 1 and 2 come with bytes; in every other case the slot is zeros, which must not be taken for data. */
 static int usable(uint8_t answer) {
     return answer == STATION_ANSWER_DATA || answer == STATION_ANSWER_CONTROL;
 }
 
+/* Says why where the file can't be read. */
 static int read_file(const char *path, size_t *length) {
     FILE *stream = fopen(path, "rb");
-    int failed;
-    if (stream == NULL)
-        return 0;
+    const char *why = NULL;
+    errno = stream == NULL ? errno : 0;
     /* room for one byte too many: a file that is too long is then refused, where a cut one would be read */
-    *length = fread(file, 1, sizeof file, stream);
-    failed = ferror(stream);
-    fclose(stream);
-    return !failed && *length >= 3;
+    if (stream == NULL)
+        why = strerror(errno);
+    else if ((*length = fread(file, 1, sizeof file, stream)) < sizeof file && ferror(stream))
+        why = strerror(errno);
+    else if (*length < 3)
+        why = "it has fewer than three bytes";
+    if (why != NULL)
+        fprintf(stderr, "example: can't read %s: %s\n", path, why);
+    if (stream != NULL)
+        fclose(stream);
+    return why == NULL;
+}
+
+static int refused(const char *what, uint8_t number) {
+    if (number != STATION_DONE)
+        printf("%s is refused: %u\n", what, number);
+    return number != STATION_DONE;
 }
 
 static int show_captured(size_t length) {
     uint32_t layout = file[0], cylinder = file[1], side = file[2], counts[2];
-    uint8_t answers[26], refusal;
+    uint8_t answers[STATION_MOST_SECTORS];
     /* the file may say anything: a layout that there is not is left to the library, which refuses it */
-    size_t sector, sectors = layout < 4 ? SECTORS[layout] : 0, size = layout < 4 ? SIZES[layout] : 0;
-    refusal = station_read(layout, cylinder, side, file + 3, length - 3, area, sectors * size, answers, counts);
-    if (refusal != STATION_DONE) {
-        printf("the captured track is refused: %u\n", refusal);
+    int known = layout < STATION_LAYOUTS;
+    size_t sector, sectors = known ? LAYOUTS[layout].sectors : 0, bytes = known ? LAYOUTS[layout].bytes : 0;
+    if (refused("the captured track", station_read(layout, cylinder, side, file + 3, length - 3, area, sectors * bytes, answers, counts)))
         return 0;
-    }
     printf("captured: layout %u, cylinder %u, side %u\n", (unsigned)layout, (unsigned)cylinder, (unsigned)side);
     for (sector = 1; sector <= sectors; sector++) {
-        const uint8_t *slot = area + (sector - 1) * size;
+        const uint8_t *slot = area + (sector - 1) * bytes;
         if (usable(answers[sector - 1]))
             printf("sector %u can be used: answer %u, first byte %02X\n", (unsigned)sector, answers[sector - 1], slot[0]);
         else
@@ -59,48 +79,56 @@ static int show_captured(size_t length) {
 
 /* What one sector of the track in memory answers: layout 1, cylinder 5, side 0. */
 static uint8_t answer_of(size_t sector) {
-    uint8_t answers[26];
+    uint8_t answers[STATION_MOST_SECTORS];
     uint32_t counts[2];
-    if (station_read(1, 5, 0, image, sizeof image, area, 26 * 256, answers, counts) != STATION_DONE)
+    if (station_read(1, 5, 0, image, sizeof image, area, AREA, answers, counts) != STATION_DONE)
         return 0;
     return answers[sector - 1];
 }
 
 static int rewrite_in_memory(void) {
-    uint8_t marks[26], contents[256];
+    uint8_t marks[STATION_SECTORS_1], contents[BYTES];
     uint32_t plan[4];
-    memset(area, 0xE5, 26 * 256);
+    memset(area, 0xE5, AREA);
     memset(marks, STATION_MARK_DATA, sizeof marks);
-    if (station_format(1, 5, 0, area, 26 * 256, marks, sizeof marks, image, sizeof image) != STATION_DONE)
+    if (refused("the format", station_format(1, 5, 0, area, AREA, marks, sizeof marks, image, sizeof image)))
         return 0;
     printf("formatted: sector 2 answers %u\n", answer_of(2));
 
     memset(contents, 'N', sizeof contents);
-    if (station_request(1, 5, 0, 2, STATION_MARK_DATA, contents, sizeof contents, image, sizeof image, plan) != STATION_DONE)
+    if (refused("the request", station_request(1, 5, 0, 2, STATION_MARK_DATA, contents, BYTES, image, sizeof image, plan)))
         return 0;
     printf("rewriting sector 2: %u stores from image byte %u on\n", (unsigned)plan[3], (unsigned)plan[1] / 8);
     /* one store a call, so that each can be brought to the disk before the next; mark and bytes stay the same throughout */
     while (plan[2] < plan[3]) {
-        if (station_step(plan, STATION_MARK_DATA, contents, sizeof contents, image, sizeof image) != STATION_DONE)
+        if (refused("a step", station_step(plan, STATION_MARK_DATA, contents, BYTES, image, sizeof image)))
             return 0;
         /* were it cut here, nobody could take the half-written sector for a good one */
         if (plan[2] == 200)
             printf("after %u stores: sector 2 answers %u, sector 3 answers %u\n", (unsigned)plan[2], answer_of(2), answer_of(3));
     }
     printf("after the last: sector 2 answers %u", answer_of(2));
-    printf(", and its bytes are %s\n", memcmp(area + 256, contents, sizeof contents) == 0 ? "the new ones" : "not the new ones");
-    printf("one more step is refused: %u\n", station_step(plan, STATION_MARK_DATA, contents, sizeof contents, image, sizeof image));
+    printf(", and its bytes are %s\n", memcmp(area + BYTES, contents, BYTES) == 0 ? "the new ones" : "not the new ones");
+    printf("one more step is refused: %u\n", station_step(plan, STATION_MARK_DATA, contents, BYTES, image, sizeof image));
     /* a refused format leaves the image as it was, so the rewritten track is still there */
-    printf("cylinder 75 is refused: %u", station_format(1, 75, 0, area, 26 * 256, marks, sizeof marks, image, sizeof image));
+    printf("cylinder 75 is refused: %u", station_format(1, 75, 0, area, AREA, marks, sizeof marks, image, sizeof image));
     printf(", and sector 2 still answers %u\n", answer_of(2));
     return 1;
 }
 
 int main(int count, char **words) {
     size_t length;
-    if (count != 2 || !read_file(words[1], &length)) {
+    int served;
+    if (count != 2) {
         fprintf(stderr, "usage: example FILE: layout, cylinder and side, one byte each, then the track's image\n");
         return 2;
     }
-    return show_captured(length) && rewrite_in_memory() ? 0 : 1;
+    if (!read_file(words[1], &length))
+        return 2;
+    served = show_captured(length) && rewrite_in_memory();
+    if (fflush(stdout) != 0 || ferror(stdout)) {
+        fprintf(stderr, "example: the output could not be written: %s\n", strerror(errno));
+        return 2;
+    }
+    return served ? 0 : 1;
 }

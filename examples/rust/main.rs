@@ -4,213 +4,167 @@
 //!     target/example samples/worn.in
 //!
 //! The file has the layout, the cylinder and the side, one byte each, and then the track's image.
+//! Exit status: 0 all was printed; 1 a call was refused; 2 wrong words, or a file that can't be read or written.
+use std::fmt::{self, Display};
+use std::io::{self, Read, Write};
+use std::path::Path;
 use std::process::ExitCode;
 
-/// The functions of `include/station.h`, where their promises are, behind safe ones: a real slice has a valid pointer, the right length, and no
-/// overlap with what is written, which is all that the library asks. Every number is taken.
-mod station {
-    #[link(name = "station", kind = "static")]
-    extern "C" {
-        fn station_format(
-            layout: u32,
-            cylinder: u32,
-            side: u32,
-            data: *const u8,
-            data_length: usize,
-            marks: *const u8,
-            marks_length: usize,
-            image: *mut u8,
-            image_length: usize,
-        ) -> u8;
-        fn station_read(
-            layout: u32,
-            cylinder: u32,
-            side: u32,
-            image: *const u8,
-            image_length: usize,
-            area: *mut u8,
-            area_length: usize,
-            answers: *mut [u8; 26],
-            counts: *mut [u32; 2],
-        ) -> u8;
-        fn station_request(
-            layout: u32,
-            cylinder: u32,
-            side: u32,
-            sector: u32,
-            mark: u32,
-            contents: *const u8,
-            contents_length: usize,
-            image: *const u8,
-            image_length: usize,
-            plan: *mut [u32; 4],
-        ) -> u8;
-        fn station_step(
-            plan: *mut [u32; 4],
-            mark: u32,
-            contents: *const u8,
-            contents_length: usize,
-            image: *mut u8,
-            image_length: usize,
-        ) -> u8;
-    }
+#[path = "../../include/station.rs"]
+mod station;
 
-    /// Sectors and bytes of each, by layout.
-    pub const LAYOUTS: [(usize, usize); 4] = [(26, 128), (26, 256), (15, 512), (8, 1024)];
-    pub const DATA_MARK: u8 = 0xFB;
+use station::{Layout, Reading, DATA_MARK, LAYOUTS, LONGEST_IMAGE};
 
-    #[derive(Clone, Copy)]
-    pub struct Track {
-        pub layout: u32,
-        pub cylinder: u32,
-        pub side: u32,
-    }
+/// Why the program ends early.
+enum Failure {
+    /// The library refused a call.
+    Refused(&'static str, u8),
+    /// Reading or writing went wrong.
+    Lost(io::Error),
+}
 
-    /// The number of a refusal.
-    pub type Refusal = u8;
-
-    pub struct Reading {
-        pub area: Vec<u8>,
-        pub answers: [u8; 26],
-        pub counts: [u32; 2],
-    }
-
-    /// The library gives 0 where a call is served.
-    fn served(number: u8) -> Result<(), Refusal> {
-        if number == 0 {
-            Ok(())
-        } else {
-            Err(number)
-        }
-    }
-
-    impl Track {
-        pub fn format(self, data: &[u8], marks: &[u8], image: &mut [u8]) -> Result<(), Refusal> {
-            let Track { layout, cylinder, side } = self;
-            let (data, data_length, marks, marks_length) = (data.as_ptr(), data.len(), marks.as_ptr(), marks.len());
-            let (image, image_length) = (image.as_mut_ptr(), image.len());
-            // SAFETY: see the module.
-            served(unsafe {
-                station_format(layout, cylinder, side, data, data_length, marks, marks_length, image, image_length)
-            })
-        }
-
-        pub fn read(self, image: &[u8]) -> Result<Reading, Refusal> {
-            let Track { layout, cylinder, side } = self;
-            // a layout that there is not is left to the library, which refuses it
-            let (sectors, size) = LAYOUTS.get(layout as usize).copied().unwrap_or((0, 0));
-            let mut reading = Reading { area: vec![0; sectors * size], answers: [0; 26], counts: [0; 2] };
-            let (area, area_length) = (reading.area.as_mut_ptr(), reading.area.len());
-            let (answers, counts) = (&mut reading.answers, &mut reading.counts);
-            // SAFETY: see the module.
-            served(unsafe {
-                station_read(layout, cylinder, side, image.as_ptr(), image.len(), area, area_length, answers, counts)
-            })?;
-            Ok(reading)
-        }
-
-        pub fn request(self, sector: u32, mark: u8, contents: &[u8], image: &[u8]) -> Result<[u32; 4], Refusal> {
-            let Track { layout, cylinder, side } = self;
-            let (contents, contents_length, mark) = (contents.as_ptr(), contents.len(), mark.into());
-            let (image, image_length, mut plan) = (image.as_ptr(), image.len(), [0; 4]);
-            // SAFETY: see the module.
-            served(unsafe {
-                station_request(
-                    layout,
-                    cylinder,
-                    side,
-                    sector,
-                    mark,
-                    contents,
-                    contents_length,
-                    image,
-                    image_length,
-                    &mut plan,
-                )
-            })?;
-            Ok(plan)
-        }
-    }
-
-    pub fn step(plan: &mut [u32; 4], mark: u8, contents: &[u8], image: &mut [u8]) -> Result<(), Refusal> {
-        let (contents, contents_length) = (contents.as_ptr(), contents.len());
-        // SAFETY: see the module.
-        served(unsafe { station_step(plan, mark.into(), contents, contents_length, image.as_mut_ptr(), image.len()) })
+impl From<io::Error> for Failure {
+    fn from(error: io::Error) -> Failure {
+        Failure::Lost(error)
     }
 }
 
-use station::{Refusal, Track, DATA_MARK, LAYOUTS};
+impl Display for Failure {
+    fn fmt(&self, f: &mut fmt::Formatter) -> fmt::Result {
+        match self {
+            Failure::Refused(what, number) => write!(f, "{what} is refused: {number}"),
+            Failure::Lost(error) => write!(f, "the output could not be written: {error}"),
+        }
+    }
+}
+
+/// The library gives 0 where a call is served.
+fn served(what: &'static str, number: u8) -> Result<(), Failure> {
+    match number {
+        0 => Ok(()),
+        _ => Err(Failure::Refused(what, number)),
+    }
+}
+
+#[derive(Clone, Copy)]
+struct Track {
+    layout: u32,
+    cylinder: u32,
+    side: u32,
+}
+
+impl Track {
+    /// The layout's sizes. A layout that there is not is left to the library, which refuses it.
+    fn sizes(self) -> Layout {
+        LAYOUTS.get(self.layout as usize).copied().unwrap_or(Layout { sectors: 0, bytes: 0, image: 0 })
+    }
+
+    /// The slots of all sectors, and what is told of them.
+    fn read(self, what: &'static str, image: &[u8]) -> Result<(Vec<u8>, Reading), Failure> {
+        let (mut area, mut reading) = (vec![0; self.sizes().area()], Reading::default());
+        served(what, station::read(self.layout, self.cylinder, self.side, image, &mut area, &mut reading))?;
+        Ok((area, reading))
+    }
+
+    fn format(self, data: &[u8], marks: &[u8], image: &mut [u8]) -> u8 {
+        station::format(self.layout, self.cylinder, self.side, data, marks, image)
+    }
+}
 
 /// Only 1 and 2 come with bytes; in every other case the slot is zeros, which must not be taken for data.
 fn usable(answer: u8) -> bool {
     matches!(answer, 1 | 2)
 }
 
-fn show_captured(track: Track, image: &[u8]) -> Result<(), Refusal> {
-    let reading = track.read(image)?;
-    let (sectors, size) = LAYOUTS[track.layout as usize];
-    println!("captured: layout {}, cylinder {}, side {}", track.layout, track.cylinder, track.side);
-    for sector in 1..=sectors {
-        let answer = reading.answers[sector - 1];
-        let slot = &reading.area[(sector - 1) * size..sector * size];
+fn show_captured(out: &mut impl Write, track: Track, image: &[u8]) -> Result<(), Failure> {
+    let (area, reading) = track.read("the captured track", image)?;
+    writeln!(out, "captured: layout {}, cylinder {}, side {}", track.layout, track.cylinder, track.side)?;
+    let slots = area.chunks(track.sizes().bytes);
+    for (sector, (slot, answer)) in (1..).zip(slots.zip(reading.answers)) {
         if usable(answer) {
-            println!("sector {sector} can be used: answer {answer}, first byte {:02X}", slot[0]);
+            writeln!(out, "sector {sector} can be used: answer {answer}, first byte {:02X}", slot[0])?;
         } else {
-            println!("sector {sector} can't be used: answer {answer}");
+            writeln!(out, "sector {sector} can't be used: answer {answer}")?;
         }
     }
-    println!("identifiers: {} with a wrong EDC, {} of other tracks", reading.counts[0], reading.counts[1]);
+    let [bad, foreign] = reading.counts;
+    writeln!(out, "identifiers: {bad} with a wrong EDC, {foreign} of other tracks")?;
     Ok(())
 }
 
-fn rewrite_in_memory() -> Result<(), Refusal> {
-    let track = Track { layout: 1, cylinder: 5, side: 0 };
-    let (data, marks, mut image) = (vec![0xE5; 26 * 256], [DATA_MARK; 26], vec![0; 20_832]);
-    track.format(&data, &marks, &mut image)?;
-    println!("formatted: sector 2 answers {}", track.read(&image)?.answers[1]);
+fn rewrite_in_memory(out: &mut impl Write) -> Result<(), Failure> {
+    let (track, mark) = (Track { layout: 1, cylinder: 5, side: 0 }, u32::from(DATA_MARK));
+    let Layout { sectors, bytes, image } = track.sizes();
+    let (data, marks, mut image) = (vec![0xE5; sectors * bytes], vec![DATA_MARK; sectors], vec![0; image]);
+    served("the format", track.format(&data, &marks, &mut image))?;
+    writeln!(out, "formatted: sector 2 answers {}", track.read("the read", &image)?.1.answers[1])?;
 
-    let contents = [b'N'; 256];
-    let mut plan = track.request(2, DATA_MARK, &contents, &image)?;
-    println!("rewriting sector 2: {} stores from image byte {} on", plan[3], plan[1] / 8);
+    let (contents, mut plan) = (vec![b'N'; bytes], [0; 4]);
+    let Track { layout, cylinder, side } = track;
+    served("the request", station::request(layout, cylinder, side, 2, mark, &contents, &image, &mut plan))?;
+    writeln!(out, "rewriting sector 2: {} stores from image byte {} on", plan[3], plan[1] / 8)?;
     // one store a call, so that each can be brought to the disk before the next; mark and bytes stay the same throughout
     while plan[2] < plan[3] {
-        station::step(&mut plan, DATA_MARK, &contents, &mut image)?;
+        served("a step", station::step(&mut plan, mark, &contents, &mut image))?;
         // were it cut here, nobody could take the half-written sector for a good one
         if plan[2] == 200 {
-            let answers = track.read(&image)?.answers;
-            println!("after 200 stores: sector 2 answers {}, sector 3 answers {}", answers[1], answers[2]);
+            let answers = track.read("the read", &image)?.1.answers;
+            writeln!(out, "after 200 stores: sector 2 answers {}, sector 3 answers {}", answers[1], answers[2])?;
         }
     }
-    let reading = track.read(&image)?;
-    let new = if reading.area[256..512] == contents { "the new ones" } else { "not the new ones" };
-    println!("after the last: sector 2 answers {}, and its bytes are {new}", reading.answers[1]);
-    if let Err(refusal) = station::step(&mut plan, DATA_MARK, &contents, &mut image) {
-        println!("one more step is refused: {refusal}");
-    }
+    let (area, reading) = track.read("the read", &image)?;
+    let new = if area[bytes..2 * bytes] == contents { "the new ones" } else { "not the new ones" };
+    writeln!(out, "after the last: sector 2 answers {}, and its bytes are {new}", reading.answers[1])?;
+    let number = station::step(&mut plan, mark, &contents, &mut image);
+    writeln!(out, "one more step is refused: {number}")?;
     // a refused format leaves the image as it was, so the rewritten track is still there
-    if let Err(refusal) = (Track { cylinder: 75, ..track }).format(&data, &marks, &mut image) {
-        let answer = track.read(&image)?.answers[1];
-        println!("cylinder 75 is refused: {refusal}, and sector 2 still answers {answer}");
-    }
+    let number = Track { cylinder: 75, ..track }.format(&data, &marks, &mut image);
+    let answer = track.read("the read", &image)?.1.answers[1];
+    writeln!(out, "cylinder 75 is refused: {number}, and sector 2 still answers {answer}")?;
+    out.flush()?;
     Ok(())
+}
+
+/// The file's bytes: one more than the longest image has is enough, since a file that is too long is then refused, where a
+/// cut one would be read.
+fn file(path: &Path) -> io::Result<Vec<u8>> {
+    let mut bytes = Vec::new();
+    std::fs::File::open(path)?.take(3 + LONGEST_IMAGE as u64 + 1).read_to_end(&mut bytes)?;
+    if bytes.len() < 3 {
+        return Err(io::Error::new(io::ErrorKind::UnexpectedEof, "it has fewer than three bytes"));
+    }
+    Ok(bytes)
 }
 
 fn main() -> ExitCode {
-    let file = std::env::args_os().nth(1).and_then(|path| std::fs::read(path).ok()).filter(|file| file.len() >= 3);
-    let file = match file {
-        Some(file) => file,
-        None => {
+    let words: Vec<_> = std::env::args_os().skip(1).collect();
+    let path = match &words[..] {
+        [path] => Path::new(path),
+        _ => {
             eprintln!("usage: example FILE: layout, cylinder and side, one byte each, then the track's image");
             return ExitCode::from(2);
         }
     };
+    let file = match file(path) {
+        Ok(file) => file,
+        Err(error) => {
+            eprintln!("example: can't read {}: {error}", path.display());
+            return ExitCode::from(2);
+        }
+    };
     let track = Track { layout: file[0].into(), cylinder: file[1].into(), side: file[2].into() };
-    if let Err(refusal) = show_captured(track, &file[3..]) {
-        println!("the captured track is refused: {refusal}");
-        return ExitCode::FAILURE;
-    }
-    match rewrite_in_memory() {
+    let out = &mut io::stdout();
+    match show_captured(out, track, &file[3..]).and_then(|()| rewrite_in_memory(out)) {
         Ok(()) => ExitCode::SUCCESS,
-        Err(_) => ExitCode::FAILURE,
+        Err(failure @ Failure::Refused(..)) => match writeln!(out, "{failure}").and_then(|()| out.flush()) {
+            Ok(()) => ExitCode::FAILURE,
+            Err(error) => told(&Failure::Lost(error)),
+        },
+        Err(lost) => told(&lost),
     }
+}
+
+fn told(lost: &Failure) -> ExitCode {
+    eprintln!("example: {lost}");
+    ExitCode::from(2)
 }

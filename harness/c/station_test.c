@@ -101,5 +101,6 @@ int main(void) {
     step_test();
     cut_test();
     empty_test();
+    size_test();
     return checks_end();
 }

@@ -9,5 +9,6 @@ void request_test(void);
 void step_test(void);
 void cut_test(void);
 void empty_test(void);
+void size_test(void);
 
 #endif

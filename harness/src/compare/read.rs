@@ -2,7 +2,7 @@
 use crate::reference::dump::Reader;
 use crate::reference::read::read;
 use crate::rng::Rng;
-use crate::station;
+use crate::station::{self, Reading};
 use crate::tally::met::Row;
 use crate::tally::Tally;
 use crate::tracks::Track;
@@ -32,14 +32,12 @@ impl Call {
         let image = [&vec![0x44; before], &self.image[..]].concat();
         let lent = garbage(rng, before + self.area + after);
         let mut area = lent.clone();
-        let mut answers = [rng.byte() | 1; 26];
-        let mut counts = [rng.bits() as u32 | 1; 2];
+        let mut reading = Reading { answers: [rng.byte() | 1; 26], counts: [rng.bits() as u32 | 1; 2] };
         let slots = before..before + self.area;
-        let number =
-            reader(layout, cylinder, side, &image[before..], &mut area[slots.clone()], &mut answers, &mut counts);
+        let number = reader(layout, cylinder, side, &image[before..], &mut area[slots.clone()], &mut reading);
         assert_eq!(area[..before], lent[..before], "bytes before the area: {self:?}");
         assert_eq!(area[slots.end..], lent[slots.end..], "bytes after the area: {self:?}");
-        Outcome { number, answers, counts, area: area[slots].to_vec() }
+        Outcome { number, reading, area: area[slots].to_vec() }
     }
 }
 
@@ -55,33 +53,47 @@ fn garbage(rng: &mut Rng, length: usize) -> Vec<u8> {
 #[derive(Clone, PartialEq, Eq)]
 pub struct Outcome {
     pub number: u8,
-    pub answers: [u8; 26],
-    pub counts: [u32; 2],
+    pub reading: Reading,
     pub area: Vec<u8>,
 }
 
 impl Outcome {
     /// That of a refused call.
     pub fn refused(number: u8, area: usize) -> Outcome {
-        Outcome { number, answers: [0; 26], counts: [0; 2], area: vec![0; area] }
+        Outcome { number, reading: Reading::default(), area: vec![0; area] }
+    }
+
+    /// What the library reads from an image, which it has to accept.
+    pub fn of_image(track: Track, image: &[u8]) -> Outcome {
+        let Track { layout, cylinder, side } = track;
+        let mut outcome = Outcome::refused(0, track.layout().area_bytes());
+        let number = station::read(layout, cylinder, side, image, &mut outcome.area, &mut outcome.reading);
+        assert_eq!(number, 0, "refusal of the reader: {track:?}");
+        outcome
+    }
+
+    /// The sectors that can be rewritten, if their marks stand on byte boundaries.
+    pub fn whole(&self) -> Vec<usize> {
+        let answers = (1..).zip(self.reading.answers);
+        answers.filter(|(_, answer)| [1, 2, 25, 26].contains(answer)).map(|(sector, _)| sector).collect()
     }
 
     /// That of a track with these contents, formatted.
     pub fn of_contents(track: Track, data: &[u8], marks: &[u8]) -> Outcome {
-        let mut answers = [0; 26];
-        for (answer, &mark) in answers.iter_mut().zip(marks) {
+        let mut reading = Reading::default();
+        for (answer, &mark) in reading.answers.iter_mut().zip(marks) {
             *answer = if mark == 0xFB { 1 } else { 2 };
         }
         assert_eq!(marks.len(), track.layout().sectors);
-        Outcome { number: 0, answers, counts: [0; 2], area: data.to_vec() }
+        Outcome { number: 0, reading, area: data.to_vec() }
     }
 
     /// Counts one input with this outcome. Answers past the layout's count and those of a refused call are 0.
     pub fn count(&self, tally: &mut Tally) {
         tally.input();
         tally.met(Row::Read, self.number);
-        self.answers.iter().filter(|&&answer| answer > 0).for_each(|&answer| tally.met(Row::Answer, answer));
-        let [bad, foreign] = self.counts.map(u64::from);
+        self.reading.answers.iter().filter(|&&answer| answer > 0).for_each(|&answer| tally.met(Row::Answer, answer));
+        let [bad, foreign] = self.reading.counts.map(u64::from);
         tally.met_times(Row::Identifier, 0, bad);
         tally.met_times(Row::Identifier, 1, foreign);
     }
@@ -89,8 +101,8 @@ impl Outcome {
 
 impl fmt::Debug for Outcome {
     fn fmt(&self, f: &mut fmt::Formatter) -> fmt::Result {
-        let Outcome { number, answers, counts, .. } = self;
-        write!(f, "{number}, answers {answers:?}, counts {counts:?}")
+        let Reading { answers, counts } = self.reading;
+        write!(f, "{}, answers {answers:?}, counts {counts:?}", self.number)
     }
 }
 

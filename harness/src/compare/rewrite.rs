@@ -1,4 +1,5 @@
 //! Rewrites, and how the two sides are held against each other on one of them.
+use super::read::Outcome;
 use super::{among_others, difference};
 use crate::reference::rewrite::{self, Plan, Request};
 use crate::reference::stores::stores;
@@ -107,18 +108,18 @@ impl Call {
     }
 
     /// What has to be read after some stores of `all`, if before the first of them `before` was.
-    pub fn expected(&self, before: &Reading, made: usize, all: usize) -> Reading {
-        let mut reading = before.clone();
+    pub fn expected(&self, before: &Outcome, made: usize, all: usize) -> Outcome {
+        let mut after = before.clone();
         let (index, size) = (self.sector as usize - 1, self.contents.len());
-        let slot = &mut reading.area[index * size..][..size];
+        let slot = &mut after.area[index * size..][..size];
         if made == all {
-            reading.answers[index] = if self.mark == 0xFB { 1 } else { 2 };
+            after.reading.answers[index] = if self.mark == 0xFB { 1 } else { 2 };
             slot.copy_from_slice(&self.contents);
         } else if made > 0 {
-            reading.answers[index] = 25;
+            after.reading.answers[index] = 25;
             slot.fill(0);
         }
-        reading
+        after
     }
 }
 
@@ -185,34 +186,4 @@ fn are_same(one: &[u8], other: &[u8]) -> bool {
     let (rest, other_rest) = (words.remainder(), others.remainder());
     let word = |octets: &[u8]| u64::from_ne_bytes(octets.try_into().expect("eight of them"));
     words.map(word).eq(others.map(word)) && rest == other_rest
-}
-
-/// What the library reads from an image.
-#[derive(Clone, PartialEq, Eq)]
-pub struct Reading {
-    pub answers: [u8; 26],
-    pub counts: [u32; 2],
-    pub area: Vec<u8>,
-}
-
-impl Reading {
-    pub fn new(track: Track, image: &[u8]) -> Reading {
-        let Track { layout, cylinder, side } = track;
-        let (mut answers, mut counts, mut area) = ([0; 26], [0; 2], vec![0; track.layout().area_bytes()]);
-        let number = station::read(layout, cylinder, side, image, &mut area, &mut answers, &mut counts);
-        assert_eq!(number, 0, "refusal of the reader: {track:?}");
-        Reading { answers, counts, area }
-    }
-
-    /// The sectors that can be rewritten, if their marks stand on byte boundaries.
-    pub fn whole(&self) -> Vec<usize> {
-        let answers = (1..).zip(self.answers);
-        answers.filter(|(_, answer)| [1, 2, 25, 26].contains(answer)).map(|(sector, _)| sector).collect()
-    }
-}
-
-impl fmt::Debug for Reading {
-    fn fmt(&self, f: &mut fmt::Formatter) -> fmt::Result {
-        write!(f, "answers {:?}, counts {:?}", self.answers, self.counts)
-    }
 }

@@ -1,9 +1,10 @@
 //! What the program prints (01, "Small facts"): layout, cylinder and side, one byte each, then the image.
 use super::layouts::LAYOUTS;
 use super::read::read;
+use crate::station::Reading;
 
-/// A reader: layout, cylinder, side, image, area, answers, counts.
-pub type Reader = fn(u32, u32, u32, &[u8], &mut [u8], &mut [u8; 26], &mut [u32; 2]) -> u8;
+/// A reader: layout, cylinder, side, image, area, and what is told of the track.
+pub type Reader = fn(u32, u32, u32, &[u8], &mut [u8], &mut Reading) -> u8;
 
 /// What is printed for all of standard input.
 pub fn dump(input: &[u8]) -> String {
@@ -27,15 +28,15 @@ fn track(reader: Reader, [layout, cylinder, side]: [u8; 3], image: &[u8]) -> Str
     let found = LAYOUTS.get(usize::from(layout));
     let (sectors, size) = found.map_or((0, 0), |layout| (layout.sectors, layout.size));
     let mut area = vec![0; sectors * size];
-    let (mut answers, mut counts) = ([0; 26], [0; 2]);
-    let number = reader(layout.into(), cylinder.into(), side.into(), image, &mut area, &mut answers, &mut counts);
+    let mut reading = Reading::default();
+    let number = reader(layout.into(), cylinder.into(), side.into(), image, &mut area, &mut reading);
     if number != 0 {
         return refused(number);
     }
     let mut lines = format!("track {cylinder} {side} {layout}\n");
-    for (sector, answer) in (1..=sectors).zip(answers) {
+    for (sector, answer) in (1..=sectors).zip(reading.answers) {
         lines += &format!("{sector} {answer}\n");
     }
-    let [bad, foreign] = counts;
+    let [bad, foreign] = reading.counts;
     lines + &format!("idents {bad} {foreign}\n")
 }

@@ -1,5 +1,6 @@
 //! The pick from two passes (01, "Two passes", "Refused calls").
 use super::layouts::LAYOUTS;
+use crate::station::Pass;
 
 /// What is handed back for one sector.
 #[derive(Clone, Copy, Debug, PartialEq, Eq)]
@@ -14,15 +15,8 @@ pub enum Pick<'a> {
     Refused(u8),
 }
 
-/// Picks a sector from two areas with their answers. A slot is handed out by its answer alone.
-pub fn pick<'a>(
-    layout: u32,
-    sector: u32,
-    first: &'a [u8],
-    first_answers: &[u8; 26],
-    second: &'a [u8],
-    second_answers: &[u8; 26],
-) -> Pick<'a> {
+/// Picks a sector from two passes. A slot is handed out by its answer alone.
+pub fn pick<'a>(layout: u32, sector: u32, first: Pass<'a>, second: Pass<'a>) -> Pick<'a> {
     let layout = match LAYOUTS.get(layout as usize) {
         Some(layout) => layout,
         None => return Pick::Refused(4),
@@ -30,36 +24,28 @@ pub fn pick<'a>(
     if sector == 0 || sector as usize > layout.sectors {
         return Pick::Refused(9);
     }
-    if first.len() != layout.area_bytes() || second.len() != layout.area_bytes() {
+    if first.area.len() != layout.area_bytes() || second.area.len() != layout.area_bytes() {
         return Pick::Refused(5);
     }
     let index = sector as usize - 1;
     let slot = index * layout.size..(index + 1) * layout.size;
-    match (first_answers[index], second_answers[index]) {
-        (answer @ (1 | 2), _) => Pick::First(answer, &first[slot]),
-        (_, answer @ (1 | 2)) => Pick::Second(answer, &second[slot]),
+    match (first.answers[index], second.answers[index]) {
+        (answer @ (1 | 2), _) => Pick::First(answer, &first.area[slot]),
+        (_, answer @ (1 | 2)) => Pick::Second(answer, &second.area[slot]),
         (answer @ 21..=26, _) => Pick::Neither(answer),
         // no answer's number stands for a sector that was never met
         _ => Pick::Neither(21),
     }
 }
 
-/// A pick in numbers: layout, sector, first area and answers, second area and answers, what is taken.
-pub type Picker = fn(u32, u32, &[u8], &[u8; 26], &[u8], &[u8; 26], &mut [u32; 3]) -> u8;
+/// A pick in numbers: layout, sector, first and second pass, what is taken.
+pub type Picker = fn(u32, u32, Pass, Pass, &mut [u32; 3]) -> u8;
 
 /// The same in numbers: the answer's or the refusal's. What is taken is the pass, 1 or 2, the first byte of its slot in
 /// that pass's area, and the slot's length; or three zeros.
-#[inline(never)]
-pub fn taken(
-    layout: u32,
-    sector: u32,
-    first: &[u8],
-    first_answers: &[u8; 26],
-    second: &[u8],
-    second_answers: &[u8; 26],
-    taken: &mut [u32; 3],
-) -> u8 {
-    let (pass, slot, number) = match pick(layout, sector, first, first_answers, second, second_answers) {
+#[inline]
+pub fn taken(layout: u32, sector: u32, first: Pass, second: Pass, taken: &mut [u32; 3]) -> u8 {
+    let (pass, slot, number) = match pick(layout, sector, first, second) {
         Pick::First(answer, slot) => (1, slot, answer),
         Pick::Second(answer, slot) => (2, slot, answer),
         Pick::Neither(number) | Pick::Refused(number) => {

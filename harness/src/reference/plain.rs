@@ -3,19 +3,12 @@ use super::coding::Mode;
 use super::edc::edc;
 use super::layouts::{of_track, Layout};
 use super::marks::{Mark, Marks, FM, MFM};
+use crate::station::Reading;
 
 /// Reads a track, as `read::read` does.
-pub fn read(
-    layout: u32,
-    cylinder: u32,
-    side: u32,
-    image: &[u8],
-    area: &mut [u8],
-    answers: &mut [u8; 26],
-    counts: &mut [u32; 2],
-) -> u8 {
+pub fn read(layout: u32, cylinder: u32, side: u32, image: &[u8], area: &mut [u8], reading: &mut Reading) -> u8 {
     area.fill(0);
-    (*answers, *counts) = ([0; 26], [0; 2]);
+    *reading = Reading::default();
     let layout = match of_track(layout, cylinder, side) {
         Err(number) => return number,
         Ok(_) if !(1..=24_576).contains(&image.len()) => return 1,
@@ -23,28 +16,43 @@ pub fn read(
         Ok(layout) => layout,
     };
     let met = met(layout, cylinder, side, image);
-    *counts = [met.bad, met.foreign];
+    reading.counts = [met.bad, met.foreign];
     for number in 1..=layout.sectors {
-        let records: Vec<_> = met.accepted.iter().filter(|record| record.0 == number).collect();
-        answers[number - 1] = match records.len() {
-            0 => 21,
-            1 => records[0].1,
+        let accepted: Vec<_> = met.accepted.iter().filter(|accepted| accepted.sector == number).collect();
+        reading.answers[number - 1] = match accepted[..] {
+            [] => 21,
+            [only] => only.answer,
             _ => 22,
         };
-        if let [(_, _, _, bytes)] = records[..] {
+        if let [Accepted { bytes, .. }] = accepted[..] {
             area[(number - 1) * layout.size..][..bytes.len()].copy_from_slice(bytes);
         }
     }
     0
 }
 
-/// What the walk meets: the two counts, and of each accepted identifier sector number, answer, the cell at which its
-/// block's mark begins (0 without a block) and the bytes.
+/// What the walk meets.
 #[derive(Default)]
 pub(super) struct Met {
     bad: u32,
     foreign: u32,
-    pub(super) accepted: Vec<(usize, u8, usize, Vec<u8>)>,
+    pub(super) accepted: Vec<Accepted>,
+}
+
+/// An accepted identifier, with what its block gives.
+pub(super) struct Accepted {
+    pub(super) sector: usize,
+    pub(super) answer: u8,
+    /// The cell at which the block's mark begins; 0 without a block.
+    pub(super) place: usize,
+    /// The data, where the answer says that it is to be had.
+    bytes: Vec<u8>,
+}
+
+impl Accepted {
+    fn refused(sector: usize, answer: u8, place: usize) -> Accepted {
+        Accepted { sector, answer, place, bytes: vec![] }
+    }
 }
 
 /// The whole walk.
@@ -78,8 +86,8 @@ fn walk<const MARK: usize>(
             continue;
         }
         cell += 96;
-        let number = usize::from(six[2]);
-        if [six[0], six[1], six[3]] != own || !(1..=layout.sectors).contains(&number) {
+        let sector = usize::from(six[2]);
+        if [six[0], six[1], six[3]] != own || !(1..=layout.sectors).contains(&sector) {
             met.foreign += 1;
             continue;
         }
@@ -89,21 +97,21 @@ fn walk<const MARK: usize>(
         let found = (cell..=cell + window).find_map(|place| Some((place, kind_at(place)?)));
         let (place, kind) = found.unwrap_or((cell, 0));
         if kind == 0 {
-            met.accepted.push((number, 23, 0, vec![]));
+            met.accepted.push(Accepted::refused(sector, 23, 0));
             continue;
         }
         // 4
         cell = place + 8 * MARK + 16 * (layout.size + 2);
         if cell > cells {
-            met.accepted.push((number, 24, place, vec![]));
+            met.accepted.push(Accepted::refused(sector, 24, place));
             return None;
         }
         let block = bytes(image, place + 8 * MARK, layout.size + 2);
         let is_right = edc(&[kinds[kind].bytes, &block].concat()) == 0;
         met.accepted.push(match kind {
-            3 => (number, 25, place, vec![]),
-            _ if !is_right => (number, 26, place, vec![]),
-            _ => (number, kind as u8, place, block[..layout.size].to_vec()),
+            3 => Accepted::refused(sector, 25, place),
+            _ if !is_right => Accepted::refused(sector, 26, place),
+            _ => Accepted { sector, answer: kind as u8, place, bytes: block[..layout.size].to_vec() },
         });
     }
 }

@@ -4,21 +4,13 @@ use super::coding::Mode;
 use super::edc::{continued, edc};
 use super::marks;
 use super::walk::{decode, stored, walk, Found, Kind, Meets, Track, BYTE};
+use crate::station::Reading;
 
-/// Reads a track. Answers 0, or the number of the refusal. Nothing is left of what area, answers and counts held:
-/// slots and answers stand by sector number, the counts are those of bad and foreign identifiers, all else is zero.
+/// Reads a track. Answers 0, or the number of the refusal. Nothing is left of what area and reading held: slots and
+/// answers stand by sector number, the counts are those of bad and foreign identifiers, all else is zero.
 #[inline(never)]
-pub fn read(
-    layout: u32,
-    cylinder: u32,
-    side: u32,
-    image: &[u8],
-    area: &mut [u8],
-    answers: &mut [u8; 26],
-    counts: &mut [u32; 2],
-) -> u8 {
-    *answers = [0; 26];
-    *counts = [0; 2];
+pub fn read(layout: u32, cylinder: u32, side: u32, image: &[u8], area: &mut [u8], reading: &mut Reading) -> u8 {
+    *reading = Reading::default();
     let track = match accepted(layout, cylinder, side, image, area) {
         Ok(track) => track,
         Err(number) => {
@@ -27,6 +19,7 @@ pub fn read(
         }
     };
     let layout = track.layout;
+    let Reading { answers, counts } = reading;
     let answers = &mut answers[..layout.sectors];
     answers.fill(21);
     let (data, control) = match layout.mode {
@@ -34,7 +27,7 @@ pub fn read(
         Mode::Mfm => (marks::MFM.data.bytes, marks::MFM.control.bytes),
     };
     let (data, control) = (edc(data), edc(control));
-    walk(track, &mut Reading { image, size: layout.size, data, control, area, answers, counts });
+    walk(track, &mut Filling { image, size: layout.size, data, control, area, answers, counts });
     let slots = area.chunks_exact_mut(layout.size).zip(answers);
     slots.filter(|(_, answer)| **answer > 2).for_each(|(slot, _)| slot.fill(0));
     0
@@ -49,7 +42,8 @@ fn accepted<'a>(layout: u32, cylinder: u32, side: u32, image: &'a [u8], area: &[
     Ok(track)
 }
 
-struct Reading<'a> {
+/// What the walk fills.
+struct Filling<'a> {
     image: &'a [u8],
     size: usize,
     /// What the marks leave in the register, once for all blocks.
@@ -60,7 +54,7 @@ struct Reading<'a> {
     counts: &'a mut [u32; 2],
 }
 
-impl Meets for Reading<'_> {
+impl Meets for Filling<'_> {
     fn bad(&mut self) {
         self.counts[0] += 1;
     }
@@ -80,7 +74,7 @@ impl Meets for Reading<'_> {
     }
 }
 
-impl Reading<'_> {
+impl Filling<'_> {
     /// The answer for a whole block after a data or control mark, as if no other had its number.
     fn block(&mut self, sector: usize, from: usize, kind: Kind) -> u8 {
         let (answer, register) = if kind == Kind::Data { (1, self.data) } else { (2, self.control) };

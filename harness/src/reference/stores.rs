@@ -75,7 +75,7 @@ pub fn request(
     plan: &mut Plan,
 ) -> u8 {
     *plan = [0; 4];
-    let sectors = match of_track(layout, cylinder, side) {
+    let accepted = match of_track(layout, cylinder, side) {
         Err(number) => return number,
         Ok(_) if !(1..=24_576).contains(&image.len()) => return 1,
         Ok(found) if !(1..=found.sectors).contains(&(sector as usize)) => return 9,
@@ -84,9 +84,9 @@ pub fn request(
         Ok(_) if cylinder == 0 && mark == 0xF8 && contents[0] != 0x44 => return 7,
         Ok(found) => met(found, cylinder, side, image).accepted,
     };
-    let places: Vec<_> = sectors.iter().filter(|record| record.0 == sector as usize).collect();
-    let place = match places[..] {
-        [&(_, answer, place, _)] if ![23, 24].contains(&answer) => place,
+    let named: Vec<_> = accepted.iter().filter(|accepted| accepted.sector == sector as usize).collect();
+    let place = match named[..] {
+        [only] if ![23, 24].contains(&only.answer) => only.place,
         _ => return 10,
     };
     if place % 8 != 0 {

@@ -43,9 +43,18 @@ const ROWS: [(Row, &str, &[u8]); 10] = [
 /// The rows whose numbers other than 0 are refusals.
 const CALLS: [Row; 5] = [Row::Format, Row::Read, Row::Pick, Row::Request, Row::Step];
 
+/// Room for every number there is, those of the requests (02) among them: answers up to 27, refusals up to 53.
+const NUMBERS: usize = 54;
+
 /// How often each outcome was met.
-#[derive(Clone, Default)]
-pub struct Met([[u64; 27]; ROWS.len()]);
+#[derive(Clone)]
+pub struct Met([[u64; NUMBERS]; ROWS.len()]);
+
+impl Default for Met {
+    fn default() -> Met {
+        Met([[0; NUMBERS]; ROWS.len()])
+    }
+}
 
 impl Met {
     pub fn add(&mut self, row: Row, number: usize, times: u64) {
@@ -65,7 +74,7 @@ impl Met {
 
     /// The numbers met in a row.
     fn numbers(&self, row: Row) -> impl Iterator<Item = usize> + '_ {
-        (0..27).filter(move |&number| self.times(row, number) > 0)
+        (0..NUMBERS).filter(move |&number| self.times(row, number) > 0)
     }
 
     /// What has to be met and was not.

@@ -3,8 +3,9 @@
 mod declared;
 mod signatures;
 
+use harness::station::{LAYOUTS, LONGEST_IMAGE, MOST_SECTORS};
 use std::fs;
-use std::path::Path;
+use std::path::{Path, PathBuf};
 
 fn file(path: &str) -> String {
     let path = Path::new(env!("CARGO_MANIFEST_DIR")).join("..").join(path);
@@ -32,26 +33,42 @@ fn the_header_declares_what_is_exported() {
 }
 
 #[test]
-fn the_harness_declares_what_is_exported() {
+fn the_declarations_in_rust_are_what_is_exported() {
     let expected: Vec<String> = exported().iter().map(|function| function.in_rust()).collect();
-    let declared = declared::rust(&file("harness/src/station.rs"));
-    assert_eq!(declared, expected, "left: harness/src/station.rs, right: what crates/station exports");
-    println!("header: {} declarations of the harness as exported", declared.len());
+    let declared = declared::rust(&file("include/station.rs"));
+    assert_eq!(declared, expected, "left: include/station.rs, right: what crates/station exports");
+    println!("header: {} declarations in Rust as exported", declared.len());
 }
 
-/// The example declares only what it calls.
-#[test]
-fn the_example_declares_what_is_exported() {
-    let functions = exported();
-    let declared = declared::rust(&file("examples/rust/main.rs"));
-    assert!(!declared.is_empty(), "the example declares nothing");
-    for declaration in &declared {
-        let name = declaration.split(|c| c == ' ' || c == '(').nth(1).expect("a name");
-        let function = functions.iter().find(|function| function.name == name);
-        let expected = function.unwrap_or_else(|| panic!("{name} is not exported")).in_rust();
-        assert_eq!(*declaration, expected, "left: examples/rust/main.rs, right: what crates/station exports");
+/// The files below a folder with an ending.
+fn below(folder: &Path, ending: &str) -> Vec<PathBuf> {
+    let mut found = Vec::new();
+    for entry in fs::read_dir(folder).expect("a folder of sources") {
+        let path = entry.expect("an entry").path();
+        if path.is_dir() {
+            found.extend(below(&path, ending));
+        } else if path.extension().map_or(false, |its| its == ending) {
+            found.push(path);
+        }
     }
-    println!("header: {} declarations of the example as exported", declared.len());
+    found
+}
+
+/// There is one file with the declarations: who needs them names it as a module.
+#[test]
+fn nothing_else_declares_them() {
+    let root = Path::new(env!("CARGO_MANIFEST_DIR")).join("..");
+    let folders = ["harness/src", "harness/tests", "examples"].map(|folder| below(&root.join(folder), "rs"));
+    for path in folders.iter().flatten() {
+        let source = fs::read_to_string(path).expect("a source");
+        let mut blocks = source.split("extern \"C\" {").skip(1).map(|block| block.split('}').next().unwrap_or(""));
+        let declares = blocks.any(|block| block.contains("fn station_"));
+        assert!(!declares, "{} declares functions of the library", path.display());
+    }
+    for path in ["harness/src/station.rs", "examples/rust/main.rs"] {
+        assert!(file(path).contains("include/station.rs\"]"), "{path} does not name include/station.rs");
+    }
+    println!("header: {} other files declare nothing", folders.iter().flatten().count());
 }
 
 /// `NoIdentifier` as the constants have it: `NO_IDENTIFIER`.
@@ -66,17 +83,36 @@ fn constant(variant: &str) -> String {
     name
 }
 
-/// The equations `function Variant = number` of a specification, as constants.
-fn numbered(path: &str, function: &str, prefix: &str) -> Vec<String> {
-    let specification = file(path);
+/// The equations `function Variant = number` of the specifications, as constants. They stand in one file.
+fn numbered(function: &str, prefix: &str) -> Vec<String> {
     let equation = |line: &str| {
         let (variant, number) = line.strip_prefix(function)?.strip_prefix(' ')?.split_once(" = ")?;
         let plain = variant.chars().all(char::is_alphanumeric);
         plain.then(|| format!("{prefix}{} = {number}", constant(variant)))
     };
-    let found: Vec<String> = specification.lines().filter_map(equation).collect();
-    assert!(!found.is_empty(), "no equation of {function} in {path}");
-    found
+    let crates = Path::new(env!("CARGO_MANIFEST_DIR")).join("../crates");
+    let mut found: Vec<Vec<String>> = Vec::new();
+    for path in below(&crates, "antt") {
+        let text = fs::read_to_string(&path).expect("a specification");
+        found.extend(Some(text.lines().filter_map(equation).collect()).filter(|found: &Vec<String>| !found.is_empty()));
+    }
+    assert_eq!(found.len(), 1, "files with equations of {function}: {found:#?}");
+    found.remove(0)
+}
+
+/// The sizes of include/station.rs as the header has them. That the library takes just these is a test in C.
+fn sizes() -> Vec<String> {
+    let mut sizes = vec![format!("STATION_LAYOUTS = {}", LAYOUTS.len())];
+    for (number, layout) in LAYOUTS.iter().enumerate() {
+        sizes.push(format!("STATION_SECTORS_{number} = {}", layout.sectors));
+        sizes.push(format!("STATION_BYTES_{number} = {}", layout.bytes));
+        sizes.push(format!("STATION_IMAGE_{number} = {}", layout.image));
+    }
+    let longest = LAYOUTS.iter().map(|layout| layout.area()).max();
+    sizes.push(format!("STATION_MOST_SECTORS = {MOST_SECTORS}"));
+    sizes.push(format!("STATION_LONGEST_AREA = {}", longest.expect("a layout")));
+    sizes.push(format!("STATION_LONGEST_IMAGE = {LONGEST_IMAGE}"));
+    sizes
 }
 
 #[test]
@@ -85,13 +121,17 @@ fn the_constants_are_the_specifications_numbers() {
     let constants = declared::constants(&enums);
     let of =
         |prefix: &str| -> Vec<String> { constants.iter().filter(|text| text.starts_with(prefix)).cloned().collect() };
-    let refusals = numbered("crates/layouts/specs/Refusals.antt", "refusalNumber", "STATION_REFUSED_");
-    let mut answers = numbered("crates/read/specs/Answers.antt", "answerNumber", "STATION_ANSWER_");
-    answers.extend(numbered("crates/read/specs/Answers.antt", "faultNumber", "STATION_ANSWER_"));
+    let refusals = numbered("refusalNumber", "STATION_REFUSED_");
+    let mut answers = numbered("answerNumber", "STATION_ANSWER_");
+    answers.extend(numbered("faultNumber", "STATION_ANSWER_"));
     assert_eq!(of("STATION_REFUSED_"), refusals, "left: include/station.h, right: refusalNumber");
     assert_eq!(of("STATION_ANSWER_"), answers, "left: include/station.h, right: answerNumber and faultNumber");
-    let others = ["STATION_DONE = 0", "STATION_MARK_DATA = 0xFB", "STATION_MARK_CONTROL = 0xF8"];
+    let mut others: Vec<String> =
+        ["STATION_DONE = 0", "STATION_MARK_DATA = 0xFB", "STATION_MARK_CONTROL = 0xF8"].map(String::from).into();
+    others.extend(sizes());
     assert_eq!(constants.len(), refusals.len() + answers.len() + others.len(), "{constants:#?}");
-    assert!(others.iter().all(|other| constants.iter().any(|text| text == other)), "{constants:#?}");
+    for other in &others {
+        assert!(constants.contains(other), "the header has no {other}: {constants:#?}");
+    }
     println!("header: {} constants as in the specifications", constants.len());
 }

@@ -83,7 +83,7 @@ fn two_turns() {
         let call = Call::new(track, worn::two_turns(&mut rng, track));
         let outcome = compare(&mut tally, &mut rng, &call);
         let again = if track == tracks::FM { 26 } else { 1 };
-        assert!(outcome.answers[..again].iter().all(|&answer| answer == 22), "{outcome:?}: {track:?}");
+        assert!(outcome.reading.answers[..again].iter().all(|&answer| answer == 22), "{outcome:?}: {track:?}");
     }
     tally.report();
 }
@@ -97,7 +97,7 @@ fn foreign_tracks() {
         for asked in tracks::all().into_iter().filter(|&asked| asked != track) {
             let outcome = compare(&mut tally, &mut rng, &Call::new(asked, image.clone()));
             if asked.mode() == track.mode() {
-                assert_eq!(outcome.counts, [0, track.layout().sectors as u32], "{asked:?} on {track:?}");
+                assert_eq!(outcome.reading.counts, [0, track.layout().sectors as u32], "{asked:?} on {track:?}");
             }
         }
     }

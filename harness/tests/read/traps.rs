@@ -11,8 +11,8 @@ fn spring(name: &str, count: usize) {
     let mut tally = Tally::new("read", &format!("trap ({name})"));
     let traps: Vec<Trap> = all().into_iter().filter(|trap| trap.name == name).collect();
     assert_eq!(traps.len(), count, "traps of the name {name}");
-    for Trap { shows, track, image, answers, counts, area, .. } in traps {
-        let expected = Outcome { number: 0, answers, counts, area };
+    for Trap { shows, track, image, reading, area, .. } in traps {
+        let expected = Outcome { number: 0, reading, area };
         let mut images = vec![image];
         if !["B3", "B4", "B5", "B10", "B11", "B12"].contains(&name) {
             let longer = [&images[0][..], &[0; 2]].concat();

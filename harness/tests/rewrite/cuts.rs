@@ -2,7 +2,8 @@
 use crate::facts::{block_end, mark_bytes};
 use crate::some_sectors;
 use harness::compare::difference;
-use harness::compare::rewrite::{Call, Reading};
+use harness::compare::read::Outcome;
+use harness::compare::rewrite::Call;
 use harness::rng::Rng;
 use harness::tally::Tally;
 use harness::tracks::damage::{shifted, turn};
@@ -14,10 +15,10 @@ use harness::tracks::{self, Track};
 fn every_cut(tally: &mut Tally, rng: &mut Rng, call: &Call) {
     let plan = call.plan(tally, rng);
     let all = plan[3] as usize;
-    let before = Reading::new(call.track, &call.image);
+    let before = Outcome::of_image(call.track, &call.image);
     call.rewritten(tally, rng, plan, |made, image| {
         let expected = call.expected(&before, made, all);
-        assert_eq!(Reading::new(call.track, image), expected, "read after {made} of {all} stores: {call:?}");
+        assert_eq!(Outcome::of_image(call.track, image), expected, "read after {made} of {all} stores: {call:?}");
     });
     tally.inputs(all + 1);
 }
@@ -62,7 +63,7 @@ fn worn_tracks() {
         let image = worn(&mut rng, track);
         let by = 8 * (1 + rng.below(9));
         let image = shifted(&mut rng, &image, by);
-        let Reading { counts, .. } = Reading::new(track, &image);
+        let counts = Outcome::of_image(track, &image).reading.counts;
         assert!(counts[0] > 0 && counts[1] > 0, "bad and foreign identifiers: {counts:?}, {track:?}");
         let call = Call::new(&mut rng, track, 3, &image);
         every_cut(&mut tally, &mut rng, &call);

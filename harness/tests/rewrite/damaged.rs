@@ -1,6 +1,7 @@
 //! Damaged tracks: whatever stands in an image, both sides agree, and a rewrite touches nothing but its sector.
 use crate::rewrite;
-use harness::compare::rewrite::{Call, Reading};
+use harness::compare::read::Outcome;
+use harness::compare::rewrite::Call;
 use harness::rng::Rng;
 use harness::tally::met::Row;
 use harness::tally::Tally;
@@ -10,7 +11,7 @@ use harness::tracks::{any, random, traps, worn, Track};
 /// Asks for every sector up to a number, and rewrites some of those that can be. Those that cannot have to be the ones
 /// that the library reads so.
 fn ask(tally: &mut Tally, rng: &mut Rng, track: Track, image: &[u8], sectors: usize, most: usize) {
-    let (whole, mut rewrites) = (Reading::new(track, image).whole(), 0);
+    let (whole, mut rewrites) = (Outcome::of_image(track, image).whole(), 0);
     for sector in 1..=sectors {
         let call = Call::new(rng, track, sector, image);
         let (number, _) = call.request(tally, rng);

@@ -1,6 +1,7 @@
 //! Stores and their numbers, worked out by hand from 01, "Rewriting a sector" and "Small facts".
 use crate::rewrite;
-use harness::compare::rewrite::{Call, Reading, Sides};
+use harness::compare::read::Outcome;
+use harness::compare::rewrite::{Call, Sides};
 use harness::reference::coding::Mode;
 use harness::reference::edc::edc;
 use harness::rng::Rng;
@@ -124,12 +125,16 @@ fn noise_does_not_become_an_identifier() {
         // behind the block a whole identifier, but for the mark's first clock cell
         let sketch = Sketch::new(*track).gap(4).identifier(1).gap(22).block(Data, 1).mark(Identifier).turned(64);
         let image = sketch.bytes(&address).edc().gap(22).block(Data, 2).gap(4).image();
-        assert_eq!(Reading::new(*track, &image).answers[..2], [1, 21], "the trap: {track:?}");
+        assert_eq!(Outcome::of_image(*track, &image).reading.answers[..2], [1, 21], "the trap: {track:?}");
         for bit in [0, 1] {
             let contents = ending_in(&mut rng, *track, bit);
             let call = Call { track: *track, sector: 1, mark: 0xFB, contents, image: image.clone() };
             let last = rewrite(&mut tally, &mut rng, &call);
-            assert_eq!(Reading::new(*track, &last).answers[..2], [1, 21], "after the bit {bit}: {track:?}");
+            assert_eq!(
+                Outcome::of_image(*track, &last).reading.answers[..2],
+                [1, 21],
+                "after the bit {bit}: {track:?}"
+            );
             tally.input();
         }
     }
@@ -146,7 +151,7 @@ fn d11_open_and_wrong_blocks() {
         // sector 1 is open, in sector 2 a data cell is wrong
         image[last(1)] = if track == tracks::FM { 0x6B } else { 0x49 };
         image[last(2) + 9] ^= 0x10;
-        assert_eq!(Reading::new(track, &image).answers[..2], [25, 26], "{track:?}");
+        assert_eq!(Outcome::of_image(track, &image).reading.answers[..2], [25, 26], "{track:?}");
         for sector in [1, 2] {
             let call = Call::new(&mut rng, track, sector, &image);
             rewrite(&mut tally, &mut rng, &call);

@@ -9,7 +9,8 @@ mod literal;
 mod refusals;
 mod steps;
 
-use harness::compare::rewrite::{Call, Reading};
+use harness::compare::read::Outcome;
+use harness::compare::rewrite::Call;
 use harness::rng::Rng;
 use harness::tally::Tally;
 use harness::tracks::damage::shifted;
@@ -31,11 +32,11 @@ fn some_cuts(rng: &mut Rng, all: usize) -> Vec<usize> {
 pub fn rewrite(tally: &mut Tally, rng: &mut Rng, call: &Call) -> Vec<u8> {
     let plan = call.plan(tally, rng);
     let all = plan[3] as usize;
-    let (before, cuts) = (Reading::new(call.track, &call.image), some_cuts(rng, all));
+    let (before, cuts) = (Outcome::of_image(call.track, &call.image), some_cuts(rng, all));
     call.rewritten(tally, rng, plan, |made, image| {
         if cuts.contains(&made) {
             let expected = call.expected(&before, made, all);
-            assert_eq!(Reading::new(call.track, image), expected, "read after {made} of {all} stores: {call:?}");
+            assert_eq!(Outcome::of_image(call.track, image), expected, "read after {made} of {all} stores: {call:?}");
         }
     })
 }

@@ -1,6 +1,7 @@
 //! Refused requests: each fault by itself, and which of several counts.
 use crate::facts::{block_end, mark_bytes};
-use harness::compare::rewrite::{Call, Reading};
+use harness::compare::read::Outcome;
+use harness::compare::rewrite::Call;
 use harness::rng::Rng;
 use harness::tally::met::Row;
 use harness::tally::Tally;
@@ -149,7 +150,7 @@ fn each_refusal_alone() {
             let mut call = right.clone();
             fault.spoil(&mut rng, &right, &mut call);
             if let Fault::Read(answer) = fault {
-                let Reading { answers, .. } = Reading::new(call.track, &call.image);
+                let answers = Outcome::of_image(call.track, &call.image).reading.answers;
                 assert_eq!(answers[call.sector as usize - 1], answer, "read: {call:?}");
             }
             assert_eq!(call.request(&mut tally, &mut rng), (fault.number(), [0; 4]), "{fault:?}: {call:?}");

@@ -5,16 +5,16 @@ mod measure;
 use harness::reference;
 use harness::reference::coding::{code, Mode};
 use harness::reference::dump::Reader;
-use harness::reference::pick::Picker;
 use harness::reference::rewrite::{Request, Step};
 use harness::rng::Rng;
-use harness::station;
+use harness::station::{self, Pass, Reading};
 use harness::tracks::damage::{false_beginnings, shifted};
 use harness::tracks::worn::LONGEST;
 use harness::tracks::{Track, EACH, FM, MFM};
 use measure::{hidden, Case};
 use std::cell::RefCell;
 use std::process::Command;
+use std::slice::from_raw_parts;
 
 fn main() {
     let machine = said_by("uname", &["-m"]);
@@ -131,13 +131,59 @@ fn read(with_time: bool) {
 fn read_image(name: &str, track: Track, image: &[u8], with_time: bool) {
     let Track { layout, cylinder, side } = track;
     // one for all calls
-    let lent = RefCell::new((vec![0; track.layout().area_bytes()], [0; 26], [0; 2]));
+    let lent = RefCell::new((vec![0; track.layout().area_bytes()], Reading::default()));
     let drive = |f: Reader| {
-        let (area, answers, counts) = &mut *lent.borrow_mut();
-        assert_eq!(f(layout, cylinder, side, image, area, answers, counts), 0);
+        let (area, reading) = &mut *lent.borrow_mut();
+        assert_eq!(f(layout, cylinder, side, image, area, reading), 0);
     };
     let (rattle, rust) = (station::read, reference::read::read);
-    Case { name, drive: &drive, rattle, rust, idle: |_, _, _, _, _, _, _| 0 }.report(with_time);
+    Case { name, drive: &drive, rattle, rust, idle: |_, _, _, _, _, _| 0 }.report(with_time);
+}
+
+/// A pick as the header declares it, since for so short a call a wrapper would count: layout, sector, both passes, each an
+/// area with its length and answers, and what is taken.
+type Pick = unsafe extern "C" fn(
+    u32,
+    u32,
+    *const u8,
+    usize,
+    *const [u8; 26],
+    *const u8,
+    usize,
+    *const [u8; 26],
+    *mut [u32; 3],
+) -> u8;
+
+/// The reference's, called in the same way.
+#[inline(never)]
+unsafe extern "C" fn reference_pick(
+    layout: u32,
+    sector: u32,
+    first: *const u8,
+    first_length: usize,
+    first_answers: *const [u8; 26],
+    second: *const u8,
+    second_length: usize,
+    second_answers: *const [u8; 26],
+    taken: *mut [u32; 3],
+) -> u8 {
+    let first = Pass { area: from_raw_parts(first, first_length), answers: &*first_answers };
+    let second = Pass { area: from_raw_parts(second, second_length), answers: &*second_answers };
+    reference::pick::taken(layout, sector, first, second, &mut *taken)
+}
+
+unsafe extern "C" fn no_pick(
+    _: u32,
+    _: u32,
+    _: *const u8,
+    _: usize,
+    _: *const [u8; 26],
+    _: *const u8,
+    _: usize,
+    _: *const [u8; 26],
+    _: *mut [u32; 3],
+) -> u8 {
+    0
 }
 
 fn pick(with_time: bool) {
@@ -146,14 +192,27 @@ fn pick(with_time: bool) {
     // the first pass, the second and neither by turns
     let answers = |turns: [u8; 3]| -> [u8; 26] { std::array::from_fn(|sector| turns[sector % 3]) };
     let (first_answers, second_answers) = (answers([1, 26, 26]), answers([2, 2, 21]));
-    let drive = |f: Picker| {
+    let drive = |f: Pick| {
         for sector in 1..=26 {
             let mut taken = [0; 3];
-            hidden(f(1, sector, &first, &first_answers, &second, &second_answers, &mut taken));
+            // SAFETY: each pointer and length are those of one live slice or array; `taken` alone is written.
+            hidden(unsafe {
+                f(
+                    1,
+                    sector,
+                    first.as_ptr(),
+                    first.len(),
+                    &first_answers,
+                    second.as_ptr(),
+                    second.len(),
+                    &second_answers,
+                    &mut taken,
+                )
+            });
         }
     };
-    let (rattle, rust) = (station::pick, reference::pick::taken);
-    Case { name: "pick, 26 sectors", drive: &drive, rattle, rust, idle: |_, _, _, _, _, _, _| 0 }.report(with_time);
+    let (rattle, rust): (Pick, Pick) = (station::station_pick, reference_pick);
+    Case { name: "pick, 26 sectors", drive: &drive, rattle, rust, idle: no_pick }.report(with_time);
 }
 
 /// A request and all its steps.

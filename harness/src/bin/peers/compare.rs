@@ -3,7 +3,7 @@ use crate::disks::{self, Disk, Written};
 use harness::reference::coding::Mode;
 use harness::reference::layouts::of_track;
 use harness::reference::marks;
-use harness::station;
+use harness::station::{self, Reading};
 
 /// The longest image that the library reads.
 const LONGEST: usize = 24_576;
@@ -79,12 +79,12 @@ fn read(ours: &Written, cells: &[u8], count: &mut Count) {
     let image = &packed(cells);
     let image = &image[..image.len().min(LONGEST)];
     let mut area = vec![0; layout.area_bytes()];
-    let (mut answers, mut counts) = ([0; 26], [0; 2]);
-    let refusal = station::read(track.layout, track.cylinder, track.side, image, &mut area, &mut answers, &mut counts);
+    let mut reading = Reading::default();
+    let refusal = station::read(track.layout, track.cylinder, track.side, image, &mut area, &mut reading);
     for sector in 0..layout.sectors {
         let slot = sector * layout.size..(sector + 1) * layout.size;
         let answer = if ours.marks[sector] == marks::DATA { 1 } else { 2 };
-        let is_right = refusal == 0 && answers[sector] == answer && counts == [0, 0];
+        let is_right = refusal == 0 && reading.answers[sector] == answer && reading.counts == [0, 0];
         count.add(is_right && area[slot.clone()] == ours.data[slot]);
     }
 }

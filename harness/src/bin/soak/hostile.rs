@@ -77,8 +77,8 @@ fn reads(tally: &mut Tally, rng: &mut Rng, track: Track, image: &[u8]) {
 fn picks(tally: &mut Tally, rng: &mut Rng, track: Track) {
     let mut call = pick::Call::new(rng, track);
     (call.layout, call.sector) = (number(rng, call.layout), number(rng, call.sector));
-    resize(rng, &mut call.first);
-    resize(rng, &mut call.second);
+    resize(rng, &mut call.first.area);
+    resize(rng, &mut call.second.area);
     pick::compare(tally, rng, &call);
 }
 

@@ -1,7 +1,6 @@
 //! The jobs of which each round does one.
 use crate::hostile;
 use harness::compare::read::Outcome;
-use harness::compare::rewrite::Reading;
 use harness::compare::{difference, format, pick, read, rewrite};
 use harness::reference::rewrite::{request, Plan};
 use harness::rng::Rng;
@@ -74,14 +73,14 @@ fn rewritten(rng: &mut Rng) -> Vec<Tally> {
     let track = tracks::any(rng);
     let image = image(rng, track);
     // most often one that can be found
-    let whole = Reading::new(track, &image).whole();
+    let whole = Outcome::of_image(track, &image).whole();
     let sector = match whole.len() {
         found if found > 0 && rng.below(4) > 0 => whole[rng.below(found)],
         _ => 1 + rng.below(track.layout().sectors),
     };
     let mut call = rewrite::Call::new(rng, track, sector, &image);
     noise_behind(rng, &mut call);
-    let whole = Reading::new(track, &call.image).whole();
+    let whole = Outcome::of_image(track, &call.image).whole();
     let (number, plan) = call.request(&mut tallies[0], rng);
     assert_eq!(number == 10, !whole.contains(&sector), "{number}, where {whole:?} are whole: {call:?}");
     tallies[0].input();
@@ -110,8 +109,8 @@ fn cut_and_begun_anew([rewrites, reads]: &mut [Tally; 2], rng: &mut Rng, call: &
         }
     });
     read::compare(reads, rng, &read::Call::new(call.track, left.clone()));
-    let expected = call.expected(&Reading::new(call.track, &call.image), cut, all);
-    assert_eq!(Reading::new(call.track, &left), expected, "read after {cut} of {all} stores: {call:?}");
+    let expected = call.expected(&Outcome::of_image(call.track, &call.image), cut, all);
+    assert_eq!(Outcome::of_image(call.track, &left), expected, "read after {cut} of {all} stores: {call:?}");
     let other = call.other(rng);
     let (uncut, anew) = (other.done(), rewrite::Call { image: left, ..other }.done());
     assert!(anew == uncut, "{}, begun anew after {cut} stores: {call:?}", difference(&anew, &uncut));
@@ -127,10 +126,8 @@ fn two_passes(rng: &mut Rng) -> Vec<Tally> {
         let call = read::Call::new(track, worn::wear(rng, &image));
         read::compare(&mut tallies[0], rng, &call)
     };
-    let (one, other) = (pass(), pass());
-    let (first, first_answers) = (one.area, one.answers);
-    let (second, second_answers) = (other.area, other.answers);
-    let mut call = pick::Call { layout: track.layout, sector: 0, first, first_answers, second, second_answers };
+    let [first, second] = [pass(), pass()].map(|Outcome { area, reading, .. }| pick::Pass { area, reading });
+    let mut call = pick::Call { layout: track.layout, sector: 0, first, second };
     for sector in 1..=track.layout().sectors {
         call.sector = sector as u32;
         pick::compare(&mut tallies[1], rng, &call);

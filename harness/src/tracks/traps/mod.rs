@@ -5,6 +5,7 @@ mod searches;
 
 use super::sketch::{contents, Sketch};
 use super::{Track, FM, MFM};
+use crate::station::Reading;
 
 /// A track with its outcome.
 pub struct Trap {
@@ -12,9 +13,7 @@ pub struct Trap {
     pub shows: String,
     pub track: Track,
     pub image: Vec<u8>,
-    pub answers: [u8; 26],
-    /// Bad and foreign identifiers.
-    pub counts: [u32; 2],
+    pub reading: Reading,
     /// The slots of all sectors.
     pub area: Vec<u8>,
 }
@@ -29,16 +28,16 @@ impl Trap {
     fn new(name: &'static str, shows: &str, sketch: &Sketch) -> Trap {
         let track = sketch.track;
         let layout = track.layout();
-        let mut answers = [0; 26];
-        answers[..layout.sectors].fill(21);
+        let mut reading = Reading::default();
+        reading.answers[..layout.sectors].fill(21);
         let (shows, area) = (shows.to_string(), vec![0; layout.area_bytes()]);
-        Trap { name, shows, track, image: sketch.image(), answers, counts: [0; 2], area }
+        Trap { name, shows, track, image: sketch.image(), reading, area }
     }
 
     /// Sector numbers with their answers. Where that is 1 or 2, the slot holds the sector's own contents.
     fn answers(mut self, answers: &[(u8, u8)]) -> Trap {
         for &(sector, answer) in answers {
-            self.answers[usize::from(sector) - 1] = answer;
+            self.reading.answers[usize::from(sector) - 1] = answer;
             if answer <= 2 {
                 let bytes = contents(self.track, sector);
                 self = self.holds(sector, &bytes);
@@ -55,7 +54,7 @@ impl Trap {
     }
 
     fn counts(mut self, bad: u32, foreign: u32) -> Trap {
-        self.counts = [bad, foreign];
+        self.reading.counts = [bad, foreign];
         self
     }
 }

@@ -1,0 +1,236 @@
+//! The functions of station.h, where their promises are, for Rust: as they are declared, and behind safe ones. A real
+//! slice has a valid pointer and the right length, and overlaps nothing else that is written, which is all that the
+//! library asks. A program names this file as a module, as examples/rust/main.rs does, and links
+//! target/staticlib/libstation.a.
+#![allow(dead_code)] // a program need not call all of it
+
+// a slice is two arguments, its pointer and its number of elements; harness/tests/header holds this to the Rattle signatures
+#[link(name = "station", kind = "static")]
+extern "C" {
+    pub fn station_edc(bytes: *const u8, bytes_length: usize) -> u16;
+    pub fn station_code_fm(before: u8, byte: u8) -> u16;
+    pub fn station_code_mfm(before: u8, byte: u8) -> u16;
+    pub fn station_data_byte(image: *const u8, image_length: usize, place: usize) -> u8;
+    pub fn station_format(
+        layout: u32,
+        cylinder: u32,
+        side: u32,
+        data: *const u8,
+        data_length: usize,
+        marks: *const u8,
+        marks_length: usize,
+        image: *mut u8,
+        image_length: usize,
+    ) -> u8;
+    pub fn station_read(
+        layout: u32,
+        cylinder: u32,
+        side: u32,
+        image: *const u8,
+        image_length: usize,
+        area: *mut u8,
+        area_length: usize,
+        answers: *mut [u8; 26],
+        counts: *mut [u32; 2],
+    ) -> u8;
+    pub fn station_pick(
+        layout: u32,
+        sector: u32,
+        first: *const u8,
+        first_length: usize,
+        first_answers: *const [u8; 26],
+        second: *const u8,
+        second_length: usize,
+        second_answers: *const [u8; 26],
+        taken: *mut [u32; 3],
+    ) -> u8;
+    pub fn station_request(
+        layout: u32,
+        cylinder: u32,
+        side: u32,
+        sector: u32,
+        mark: u32,
+        contents: *const u8,
+        contents_length: usize,
+        image: *const u8,
+        image_length: usize,
+        plan: *mut [u32; 4],
+    ) -> u8;
+    pub fn station_step(
+        plan: *mut [u32; 4],
+        mark: u32,
+        contents: *const u8,
+        contents_length: usize,
+        image: *mut u8,
+        image_length: usize,
+    ) -> u8;
+}
+
+/// What one layout takes: its sectors, the bytes of one, and the image bytes of a formatted track.
+#[derive(Clone, Copy, Debug, PartialEq, Eq)]
+pub struct Layout {
+    pub sectors: usize,
+    pub bytes: usize,
+    pub image: usize,
+}
+
+impl Layout {
+    /// The bytes of all sectors: the length of an area.
+    pub const fn area(self) -> usize {
+        self.sectors * self.bytes
+    }
+}
+
+/// The layouts, by number.
+pub const LAYOUTS: [Layout; 4] = [
+    Layout { sectors: 26, bytes: 128, image: 10_416 },
+    Layout { sectors: 26, bytes: 256, image: 20_832 },
+    Layout { sectors: 15, bytes: 512, image: 20_832 },
+    Layout { sectors: 8, bytes: 1_024, image: 20_832 },
+];
+
+/// The sectors of a layout that has the most, and the bytes of the longest image that is read or rewritten.
+pub const MOST_SECTORS: usize = 26;
+pub const LONGEST_IMAGE: usize = 24_576;
+
+/// The marks that a sector may be given: of a data record, and of a control record.
+pub const DATA_MARK: u8 = 0xFB;
+pub const CONTROL_MARK: u8 = 0xF8;
+
+/// What a read tells of a track, beside the sectors' slots.
+#[derive(Clone, Copy, Debug, Default, PartialEq, Eq)]
+pub struct Reading {
+    /// The answer of each sector, that of sector 1 first; 0 past the layout's count.
+    pub answers: [u8; MOST_SECTORS],
+    /// How many identifiers have a wrong EDC, and how many are those of other tracks.
+    pub counts: [u32; 2],
+}
+
+/// A pass over a track, as a read left it: the slots of all sectors, and their answers.
+#[derive(Clone, Copy)]
+pub struct Pass<'a> {
+    pub area: &'a [u8],
+    pub answers: &'a [u8; MOST_SECTORS],
+}
+
+/// The EDC of the bytes, the register all ones at the start.
+pub fn edc(bytes: &[u8]) -> u16 {
+    // SAFETY: pointer and length are those of one live slice, which is only read.
+    unsafe { station_edc(bytes.as_ptr(), bytes.len()) }
+}
+
+/// The two image bytes of `byte` in FM after the bit `before` (0 is ZERO, all else ONE), the first in the high half.
+pub fn code_fm(before: u8, byte: u8) -> u16 {
+    // SAFETY: plain numbers, and the function takes every one of them.
+    unsafe { station_code_fm(before, byte) }
+}
+
+/// The same in MFM.
+pub fn code_mfm(before: u8, byte: u8) -> u16 {
+    // SAFETY: plain numbers, and the function takes every one of them.
+    unsafe { station_code_mfm(before, byte) }
+}
+
+/// The data byte that the sixteen cells from `cell` hold; cells past the end of the image are 0.
+pub fn data_byte(image: &[u8], cell: usize) -> u8 {
+    // SAFETY: pointer and length are those of one live slice, which is only read; every cell number is taken.
+    unsafe { station_data_byte(image.as_ptr(), image.len(), cell) }
+}
+
+/// Writes a track, data and marks by sector number. 0: written; else the number of the refusal.
+pub fn format(layout: u32, cylinder: u32, side: u32, data: &[u8], marks: &[u8], image: &mut [u8]) -> u8 {
+    // SAFETY: each pointer and length are those of one live slice; `data` and `marks` are only read, and `image`, which
+    // is written, overlaps neither; every number is taken.
+    unsafe {
+        station_format(
+            layout,
+            cylinder,
+            side,
+            data.as_ptr(),
+            data.len(),
+            marks.as_ptr(),
+            marks.len(),
+            image.as_mut_ptr(),
+            image.len(),
+        )
+    }
+}
+
+/// Reads a track. 0: slots and answers stand by sector number, the answers past the layout's count are 0. Else the
+/// number of the refusal, and all that was lent is zero.
+pub fn read(layout: u32, cylinder: u32, side: u32, image: &[u8], area: &mut [u8], reading: &mut Reading) -> u8 {
+    // SAFETY: each pointer and length are those of one live slice or array; `image` is only read, and the others, which
+    // are written, overlap neither it nor each other; every number is taken.
+    unsafe {
+        station_read(
+            layout,
+            cylinder,
+            side,
+            image.as_ptr(),
+            image.len(),
+            area.as_mut_ptr(),
+            area.len(),
+            &mut reading.answers,
+            &mut reading.counts,
+        )
+    }
+}
+
+/// Picks a sector from two passes. The answer's number or the refusal's; what is taken is the pass, 1 or 2, the first
+/// byte of its slot in that pass's area, and the slot's length; three zeros if it is neither.
+pub fn pick(layout: u32, sector: u32, first: Pass, second: Pass, taken: &mut [u32; 3]) -> u8 {
+    // SAFETY: each pointer and length are those of one live slice or array; all but `taken` are only read, and `taken`,
+    // which is written, overlaps none of them; every number is taken.
+    unsafe {
+        station_pick(
+            layout,
+            sector,
+            first.area.as_ptr(),
+            first.area.len(),
+            first.answers,
+            second.area.as_ptr(),
+            second.area.len(),
+            second.answers,
+            taken,
+        )
+    }
+}
+
+/// Asks for the rewrite of a sector. 0: the plan holds the layout, the cell at which the block's mark begins, the stores
+/// made and the stores in all. Else the number of the refusal, and the plan is zero.
+#[allow(clippy::too_many_arguments)]
+pub fn request(
+    layout: u32,
+    cylinder: u32,
+    side: u32,
+    sector: u32,
+    mark: u32,
+    contents: &[u8],
+    image: &[u8],
+    plan: &mut [u32; 4],
+) -> u8 {
+    // SAFETY: each pointer and length are those of one live slice or array; `contents` and `image` are only read, and
+    // `plan`, which is written, overlaps neither; every number is taken.
+    unsafe {
+        station_request(
+            layout,
+            cylinder,
+            side,
+            sector,
+            mark,
+            contents.as_ptr(),
+            contents.len(),
+            image.as_ptr(),
+            image.len(),
+            plan,
+        )
+    }
+}
+
+/// Makes the next store of a rewrite. 0: it is made, and the plan has moved on. Else the number of the refusal, and plan
+/// and image are as they were.
+pub fn step(plan: &mut [u32; 4], mark: u32, contents: &[u8], image: &mut [u8]) -> u8 {
+    // SAFETY: each pointer and length are those of one live slice or array; `contents` is only read, and `plan` and
+    // `image`, which are written, overlap neither it nor each other; every number is taken, in the plan too.
+    unsafe { station_step(plan, mark, contents.as_ptr(), contents.len(), image.as_mut_ptr(), image.len()) }
+}
