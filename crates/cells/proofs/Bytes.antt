@@ -1,14 +1,16 @@
--- Data bytes one behind the other: how a loop over them goes on, and what they are past the image's end.
+-- Data bytes one behind the other: how a loop over them goes on, and what they are past the image's end. And lists of bytes: what is put
+-- together of them and cut out of them is such a list.
 use mathlib.Core.Path.{_≡_, refl, sym, ap, ap₂, _∙_}
 use mathlib.Core.List.{List, [], _∷_, _++_}
 use Prim.Native.Nat.{ℕ, zero, suc, _+_, _-_, _*_, _/_, _%_, _<_, _≤_}
 use native.Mathlib.Nat.{zero-add, suc-add, zero-div}
 use native.Mathlib.Numerals.{add-one}
 use native.Mathlib.Omega.{arith}
-use lib.ListN.{length, set, replicate, List·getD-eq-default}
+use lib.Dec.{lit<}
+use lib.ListN.{length, getD, set, replicate, take, drop, List·getD-eq-default}
 use lib.Seq.{sets}
 use Rattle.cells.proofs.Stores.{sets-whole}
-use Rattle.cells.specs.Cells.{cell, dataByte, dataBytes}
+use Rattle.cells.specs.Cells.{Byte, Bytes, cell, dataByte, dataBytes}
 
 -- A place is that of its byte and the cells into it.
 pub whole : (place : ℕ) → 8 * (place / 8) + place % 8 ≡ place
@@ -84,3 +86,25 @@ zeros-past s q (suc k) h = ap₂ _∷_ (byte-past s q h) (zeros-past s (q + 16) 
 -- Past the end it is all one from where the bytes are taken.
 pub stays : (s : List ℕ) (q q′ k : ℕ) → 8 * length s ≤ q → 8 * length s ≤ q′ → dataBytes (cell s) q k ≡ dataBytes (cell s) q′ k
 stays s q q′ k h h′ = zeros-past s q k h ∙ sym (zeros-past s q′ k h′)
+
+-- ---- lists of bytes
+
+pub bytes-append : (xs ys : List ℕ) → Bytes xs → Bytes ys → Bytes (xs ++ ys)
+bytes-append [] ys f g = g
+bytes-append (x ∷ xs) ys f g = (f .0, bytes-append xs ys (f .1) g)
+
+pub bytes-take : (k : ℕ) (xs : List ℕ) → Bytes xs → Bytes (take k xs)
+bytes-take zero xs f = tt
+bytes-take (suc k) [] f = tt
+bytes-take (suc k) (x ∷ xs) f = (f .0, bytes-take k xs (f .1))
+
+pub bytes-drop : (k : ℕ) (xs : List ℕ) → Bytes xs → Bytes (drop k xs)
+bytes-drop zero xs f = f
+bytes-drop (suc k) [] f = tt
+bytes-drop (suc k) (x ∷ xs) f = bytes-drop k xs (f .1)
+
+-- Past the end of a list stands 0, a byte too.
+pub byte-at : (xs : List ℕ) (i : ℕ) → Bytes xs → Byte (getD xs i 0)
+byte-at [] i f = lit< tt
+byte-at (x ∷ xs) zero f = f .0
+byte-at (x ∷ xs) (suc i) f = byte-at xs i (f .1)

@@ -1,11 +1,13 @@
--- Laws of stores into a list: runs of them one behind the other, a run that fills the list, and a part that was lent and comes back filled.
-use mathlib.Core.Path.{_≡_, sym, _∙_}
+-- Laws of stores into a list: runs of them one behind the other, a run that fills the list, a run of zeros,
+-- and a part that was lent and comes back filled.
+use mathlib.Core.Path.{_≡_, sym, ap, _∙_}
 use mathlib.Core.List.{List, [], _∷_, _++_, append-nil, append-assoc}
-use Prim.Native.Nat.{ℕ, suc, _+_, _-_, _≤_}
+use Prim.Native.Nat.{ℕ, suc, _+_, _-_, _<_, _≤_}
 use native.Mathlib.Nat.{add-zero}
+use native.Mathlib.Numerals.{add-one}
 use native.Mathlib.Omega.{arith}
 use borrow.Rule.Slice.PartMut.{putMid}
-use lib.ListN.{length, length-drop, take, drop, drop-of-length-le, set}
+use lib.ListN.{length, length-drop, length-replicate, take, drop, drop-of-length-le, set, replicate}
 use lib.Seq.{sets, sets-eq, drop-drop, length-take-le}
 
 -- Two runs of stores, one behind the other.
@@ -33,3 +35,16 @@ pub part-length : (l : List ℕ) (a w : ℕ) → a + w ≤ length l → length (
 part-length l a w h =
     let e : a + w - a ≡ w = omega arith in
     rw e (length-take-le w (drop a l) (omega (arith, length-drop a l)))
+
+-- ---- zeros up to byte n, stored from byte i on
+
+pub zero-turn : (area : List ℕ) (n i : ℕ) → i < n → sets area i (replicate (n - i) 0) ≡ sets (set area i 0) (i + 1) (replicate (n - (i + 1)) 0)
+zero-turn area n i h =
+    let e : n - i ≡ suc (n - (i + 1)) = omega arith in
+    ap (λ (k : ℕ). sets area i (replicate k 0)) e ∙ rw (add-one i)
+
+pub zero-end : (area : List ℕ) (n i : ℕ) → n ≤ i → sets area i (replicate (n - i) 0) ≡ area
+zero-end area n i h = let e : n - i ≡ 0 = omega arith in rw e
+
+pub zero-whole : (area : List ℕ) → sets area 0 (replicate (length area) 0) ≡ replicate (length area) 0
+zero-whole area = sets-whole area (replicate (length area) 0) (length-replicate (length area) 0)

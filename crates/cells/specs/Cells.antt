@@ -1,9 +1,18 @@
 -- The cells of an image, and what eight or sixteen of them hold. An image is bytes, eight cells each, most significant bit first; it
 -- begins at the index hole and does not wrap round (01, "The image and the four layouts"). Past the image's end every cell is 0, so
 -- that each definition has a value at every cell. From the octet on, all is said of a function c, whose value c i is cell i.
-use Prim.Native.Nat.{ℕ, zero, suc, _+_, _-_, _*_, _/_, _%_, _^_}
+use Prim.Native.Nat.{ℕ, zero, suc, _+_, _-_, _*_, _/_, _%_, _^_, _<_}
 use mathlib.Core.List.{List, [], _∷_}
 use lib.ListN.{getD}
+
+-- A number that is a byte.
+abbrev pub Byte : ℕ → Type 0
+Byte x = x < 256
+
+-- A list of bytes: what an image is, and a data area.
+abbrev pub Bytes : List ℕ → Type 0
+Bytes [] = Unit {0}
+Bytes (x ∷ xs) = Byte x × Bytes xs
 
 -- Cell i of an image (01, "The image and the four layouts").
 unfoldable pub cell : List ℕ → ℕ → ℕ

@@ -1,3 +1,8 @@
+-- What the contracts of the cells cite.
+
+-- the cells of an image, and what eight or sixteen of them hold
 pub mod Cells
+-- how a data byte is coded
 pub mod Coding
+-- what each public function promises
 pub mod Outcomes

@@ -2,6 +2,7 @@
 use Prim.Native.Nat.{ℕ}
 use mathlib.Core.Path.{_≡_}
 use mathlib.Core.List.{List}
+use lib.ListN.{replicate}
 use Rattle.cells.specs.Cells.{cell, octet, dataByte, dataBytes}
 use Rattle.cells.specs.Coding.{codedByte}
 use Rattle.cells.specs.declared.Mode.{Mode}
@@ -18,6 +19,10 @@ IsDataByte image place answer = answer ≡ dataByte (cell image) place
 -- `data_bytes` leaves the area filled with the data bytes from a place on, as many as it has room for.
 abbrev pub AreDataBytes : List ℕ → ℕ → ℕ → List ℕ → Type 0
 AreDataBytes image place room exit = exit ≡ dataBytes (cell image) place room
+
+-- `clear` leaves the area filled with zeros.
+abbrev pub AreZeros : ℕ → List ℕ → Type 0
+AreZeros room exit = exit ≡ replicate room 0
 
 -- `coded` answers the two image bytes of a byte after the bit before it.
 abbrev pub IsCoded : Mode → ℕ → ℕ → Pair → Type 0

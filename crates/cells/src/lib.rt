@@ -5,7 +5,7 @@ ghost use Prim.Native.Nat.{_+_, _-_, _*_, _<_, _≤_, _/_, _%_, _^_};
 ghost use lib.ListN.{getD, length};
 ghost use Rattle.cells.specs.Cells.{cell, byteOf, dataByte, dataBytes};
 ghost use Rattle.cells.specs.Coding.{high, low};
-ghost use Rattle.cells.specs.Outcomes.{IsOctet, IsDataByte, AreDataBytes, IsCoded};
+ghost use Rattle.cells.specs.Outcomes.{IsOctet, IsDataByte, AreDataBytes, AreZeros, IsCoded};
 
 // The two modes of recording (004, 4.1).
 pub enum Mode {
@@ -62,7 +62,8 @@ fn wide_window(first: u8, second: u8, third: u8, fourth: u8, shift: usize) -> u1
 // The data cells of two octets, put together in bits 3 to 6 of each. Each step lays the cells over themselves, one and two places up, and
 // the mask keeps those that came together.
 fn nibbles(octets: u16) -> u16
-    ensures { λ r. ⌜ r ≡ byteOf 0 (octets / 16384 % 2) (octets / 4096 % 2) (octets / 1024 % 2) (octets / 256 % 2) 0 0 0 * 256 + byteOf 0 (octets / 64 % 2) (octets / 16 % 2) (octets / 4 % 2) (octets % 2) 0 0 0 ⌝ }
+    ensures { λ r. ⌜ r ≡ byteOf 0 (octets / 16384 % 2) (octets / 4096 % 2) (octets / 1024 % 2) (octets / 256 % 2) 0 0 0 * 256
+        + byteOf 0 (octets / 64 % 2) (octets / 16 % 2) (octets / 4 % 2) (octets % 2) 0 0 0 ⌝ }
 {
     let data = octets & 0x5555;
     let pairs = (data | (data << 1)) & 0x6666;
@@ -71,7 +72,8 @@ fn nibbles(octets: u16) -> u16
 
 // The data cells of sixteen cells, put together as a byte.
 fn together(cells: u16) -> u8
-    ensures { λ r. ⌜ r ≡ byteOf (cells / 16384 % 2) (cells / 4096 % 2) (cells / 1024 % 2) (cells / 256 % 2) (cells / 64 % 2) (cells / 16 % 2) (cells / 4 % 2) (cells % 2) ⌝ }
+    ensures { λ r. ⌜ r ≡ byteOf (cells / 16384 % 2) (cells / 4096 % 2) (cells / 1024 % 2) (cells / 256 % 2)
+        (cells / 64 % 2) (cells / 16 % 2) (cells / 4 % 2) (cells % 2) ⌝ }
 {
     let both = nibbles(cells) as u32;
     (both * 17 / 128 % 256) as u8
@@ -135,7 +137,8 @@ fn word_window(word: u16, next: u16, shift: usize) -> u16
 
 // The data cells of the two octets of a word, put together as a byte.
 fn word_data(word: u16) -> u8
-    ensures { λ r. ⌜ r ≡ byteOf (word / 64 % 2) (word / 16 % 2) (word / 4 % 2) (word % 2) (word / 16384 % 2) (word / 4096 % 2) (word / 1024 % 2) (word / 256 % 2) ⌝ }
+    ensures { λ r. ⌜ r ≡ byteOf (word / 64 % 2) (word / 16 % 2) (word / 4 % 2) (word % 2)
+        (word / 16384 % 2) (word / 4096 % 2) (word / 1024 % 2) (word / 256 % 2) ⌝ }
 {
     let both = nibbles(word);
     ((both * 2 + both / 2048) % 256) as u8
@@ -183,6 +186,17 @@ pub fn data_bytes(image: &[u8], place: usize, bytes: &mut [u8])
         }
     }
     fill_by_bytes(image, at, place % 8, bytes)
+}
+
+// Fills the area with zeros.
+pub fn clear(area: &mut [u8])
+    ensures { λ _. ⌜ AreZeros (length (now (area .entry))) (now (area .exit)) ⌝ }
+{
+    let mut done = 0;
+    while done < area.len() {
+        area[done] = 0;
+        done += 1;
+    }
 }
 
 // The sixteen cells of `byte` after the bit `before`. After a ONE the first clock cell of MFM is 0, whatever follows.

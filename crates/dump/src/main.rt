@@ -1,6 +1,5 @@
 // Prints what a track holds: layout, cylinder and side, one byte each, and then the image, from the standard input.
 // What the system answers to a read and a write is tested by bin/test-scripts; no proof speaks of it.
-use layouts::Chosen;
 use layouts::MOST_SECTORS;
 use libc::STDERR_FILENO;
 use libc::STDIN_FILENO;
@@ -101,9 +100,7 @@ fn print_reading(layout: u8, cylinder: u8, side: u8, reading: Reading) -> bool {
 fn area_bytes(layout: u8) -> usize
     ensures { λ r. ⌜ r ≤ 8192 ⌝ }
 {
-    let Chosen::Taken(taken) = layouts::numbered(layout as u32) else {
-        return 0;
-    };
+    let taken = layouts::layout_of(layout as u32);
     taken.area_bytes
 }
 

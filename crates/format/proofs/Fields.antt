@@ -1,73 +1,112 @@
--- Fields one behind the other make the sector and the track.
+-- Fields one behind the other make the block, the sector and the leader.
 use mathlib.Core.Path.{_≡_, sym, _∙_}
 use mathlib.Core.List.{List, [], _∷_, _++_, append-assoc}
-use Prim.Native.Nat.{ℕ, _+_, _*_, _%_, _≤_}
+use Prim.Native.Nat.{ℕ, _+_, _-_, _*_, _%_, _≤_}
 use native.Mathlib.Omega.{arith}
-use lib.ListN.{length, length-append}
+use lib.ListN.{length, length-append, getD, take, drop}
 use lib.Seq.{sets}
 use Rattle.edc.specs.Register.{edcOf}
-use Rattle.layouts.specs.Layouts.{gapByte, markBytes, sectorFields}
+use Rattle.cells.specs.declared.Mode.{Mode}
+use Rattle.layouts.specs.Layouts.{gapByte, sectorFields, slotIn}
 use Rattle.layouts.specs.declared.Layout.{Layout}
-use Rattle.marks.specs.Marks.{string, covered}
+use Rattle.layouts.specs.declared.Track.{Track}
+use Rattle.marks.specs.Marks.{string, lastBit, markBytes, markOf, covered}
 use Rattle.marks.specs.declared.Mark.{Mark}
 use Rattle.marks.specs.declared.Mark.the-variants.{Index, Identifier}
-use Rattle.format.specs.Order.{mark as marked, image, run, bytes, checked, block, sector}
-use Rattle.format.proofs.Symbols.{length-run, length-string, length-block, length-sector}
-use Rattle.format.proofs.Parts.{address, sector-parts, leader, leader-parts}
+use Rattle.format.specs.Order.{mark as marked, image, run, bytes, checked, gap, Numbered, address, sector}
+use Rattle.format.proofs.Symbols.{length-run, length-bytes, image-front, image-body, length-front, length-body, block-parts}
+use Rattle.format.proofs.Parts.{length-slot, slotted, sector-parts, length-sector, leader-parts}
+use Rattle.format.specs.Aids.{leader, stretch}
 use Rattle.cells.proofs.Stores.{sets-append, sets-whole}
 
 -- A field behind another: where the first begins, and where the second.
-pub behind : {one two : List ℕ} (area : List ℕ) (at there : ℕ) (xs ys : List ℕ) → one ≡ sets area at xs → there ≡ at + length xs → two ≡ sets one there ys
+behind : {one two : List ℕ} (area : List ℕ) (at there : ℕ) (xs ys : List ℕ) → one ≡ sets area at xs → there ≡ at + length xs → two ≡ sets one there ys
     → two ≡ sets area at (xs ++ ys)
 behind area at there xs ys e p f = f ∙ rw (p, e) (sets-append area at xs ys)
 
-module _ (l : Layout) (cylinder side s : ℕ) (m : Mark) (xs stretch : List ℕ) (width fill before first second : ℕ)
-    (whole : length stretch ≡ 2 * sectorFields l) (sized : length xs ≡ l .size) (gapped : 1 ≤ l .«identifier_gap»)
-    (w : width ≡ 2 * markBytes (l .mode)) (g : fill ≡ gapByte (l .mode)) (b : before ≡ gapByte (l .mode) % 2) where
-  -- Identifier, gap, block and gap fill the stretch.
-  pub sector-stored : {one two three four : List ℕ}
-      → one ≡ sets stretch 0 (image (l .mode) before (run (l .sync) 0 (marked Identifier ∷ bytes (checked (l .mode) Identifier (address l cylinder side s)) [])))
-      → first ≡ edcOf (covered (l .mode) Identifier ++ address l cylinder side s) % 2
-      → two ≡ sets one (2 * (l .sync + 6) + width) (image (l .mode) first (run (l .«identifier_gap») fill []))
-      → three
-      ≡ sets two (2 * (l .sync + 6) + width + 2 * l .«identifier_gap») (image (l .mode) before (run (l .sync) 0 (marked m ∷ bytes (checked (l .mode) m xs) [])))
-      → second ≡ edcOf (covered (l .mode) m ++ xs) % 2
-      → four
-      ≡ sets three (2 * (l .sync + 6) + width + 2 * l .«identifier_gap» + 2 * (l .sync + length xs + 2) + width) (image (l .mode) second (run (l .«block_gap») fill []))
-      → four ≡ image (l .mode) (gapByte (l .mode) % 2) (sector l cylinder side s m xs [])
-  unfolding block
-  sector-stored {one} {two} {three} {four} e f two-e h k j =
-      let A = image (l .mode) before (block l cylinder side Identifier (address l cylinder side s) []) in
-      let B = image (l .mode) first (run (l .«identifier_gap») fill []) in
-      let C = image (l .mode) before (block l cylinder side m xs []) in
-      let D = image (l .mode) second (run (l .«block_gap») fill []) in
-      let a : length A ≡ 2 * (l .sync + markBytes (l .mode) + 4 + 2) = length-block l cylinder side before Identifier (address l cylinder side s) in
-      let c : length C ≡ 2 * (l .sync + markBytes (l .mode) + length xs + 2) = length-block l cylinder side before m xs in
-      let i : length B ≡ 2 * l .«identifier_gap» = length-run (l .mode) first (l .«identifier_gap») fill in
-      let ab : two ≡ sets stretch 0 (A ++ B) = behind stretch 0 _ A B e (omega arith) two-e in
-      let abc : three ≡ sets stretch 0 ((A ++ B) ++ C) = behind stretch 0 _ (A ++ B) C ab (omega (arith, length-append A B)) h in
-      let abcd : four ≡ sets stretch 0 (((A ++ B) ++ C) ++ D) = behind stretch 0 _ ((A ++ B) ++ C) D abc (omega (arith, length-append A B, length-append (A ++ B) C)) j in
-      let all : ((A ++ B) ++ C) ++ D ≡ image (l .mode) (gapByte (l .mode) % 2) (sector l cylinder side s m xs []) =
-      simp append-assoc (sym (rw (f, k, b, g) (sector-parts l cylinder side gapped (gapByte (l .mode) % 2) s m xs))) in
-      abcd ∙ rw all (sets-whole stretch _ (length-sector l cylinder side (gapByte (l .mode) % 2) s m xs sized ∙ sym whole))
+-- Four fields, one behind the other.
+fourfold : {one two three four : List ℕ} (area : List ℕ) (at b c d : ℕ) (A B C D : List ℕ)
+    → one ≡ sets area at A → b ≡ at + length A → two ≡ sets one b B → c ≡ b + length B → three ≡ sets two c C → d ≡ c + length C → four ≡ sets three d D
+    → four ≡ sets area at (A ++ (B ++ (C ++ D)))
+fourfold area at b c d A B C D e p f q g r h =
+    let ab = behind area at b A B e p f in
+    let abc = behind area at c (A ++ B) C ab (omega (arith, length-append A B)) g in
+    let abcd = behind area at d ((A ++ B) ++ C) D abc (omega (arith, length-append A B, length-append (A ++ B) C)) h in
+    abcd ∙ rw (append-assoc (A ++ B) C D, append-assoc A B (C ++ D))
 
--- Gap, 00 bytes, index mark and gap make the leader.
-pub leader-stored : (l : Layout) (area : List ℕ) (width fill : ℕ) {one two three four : List ℕ} → 1 ≤ l .lead → width ≡ 2 * markBytes (l .mode) → fill ≡ gapByte (l .mode)
-    → one ≡ sets area 0 (image (l .mode) 0 (run (l .lead) fill []))
-    → two ≡ sets one (2 * l .lead) (image (l .mode) (fill % 2) (run (l .sync) 0 []))
-    → three ≡ sets two (2 * l .lead + 2 * l .sync) (string (l .mode) Index)
-    → four ≡ sets three (2 * l .lead + 2 * l .sync + width) (image (l .mode) 0 (run (l .«index_gap») fill []))
-    → four ≡ sets area 0 (leader l)
-leader-stored l area width fill {one} {two} {three} {four} some w g e f h j =
+-- 00 bytes and a mark.
+pub front-stored : (mode : Mode) (area : List ℕ) (at b k fill : ℕ) (m : Mark) {one two : List ℕ} → fill ≡ gapByte mode
+    → one ≡ sets area at (image mode (fill % 2) (run k 0 [])) → b ≡ at + 2 * k
+    → two ≡ sets one b (string mode m)
+    → two ≡ sets area at (image mode (gapByte mode % 2) (run k 0 (marked m ∷ [])))
+front-stored mode area at b k fill m g e p f =
+    behind area at b (image mode (fill % 2) (run k 0 [])) (string mode m) e (omega (arith, p, length-run mode (fill % 2) k 0)) f
+    ∙ rw (← g, image-front mode (fill % 2) k 0 m)
+
+-- Bytes with their EDC, and a gap.
+pub body-stored : (mode : Mode) (area : List ℕ) (at d k fill last : ℕ) (m : Mark) (xs : List ℕ) {one two : List ℕ} → fill ≡ gapByte mode
+    → one ≡ sets area at (image mode (lastBit m) (bytes (checked mode m xs) [])) → last ≡ edcOf (covered mode m ++ xs) % 2
+    → d ≡ at + 2 * (length xs + 2) → two ≡ sets one d (image mode last (run k fill []))
+    → two ≡ sets area at (image mode (lastBit m) (bytes (checked mode m xs) (run k (gapByte mode) [])))
+body-stored mode area at d k fill last m xs g e z p f =
+    behind area at d (image mode (lastBit m) (bytes (checked mode m xs) [])) (image mode last (run k fill [])) e
+    (omega (arith, p, length-bytes mode (lastBit m) m xs)) f
+    ∙ rw (← g, z, image-body mode (lastBit m) m xs (run k fill []))
+
+-- Identifier and block, each in two parts with the gap behind it, fill the stretch; the data are the part of the contents that is lent for them.
+pub sector-stored : (t : Track) (contents marks : List ℕ) (s : ℕ) (m : Mark) (area : List ℕ) (b c d : ℕ) {one two three four : List ℕ}
+    → length area ≡ 2 * sectorFields (t .layout) → length contents ≡ t .layout .sectors * t .layout .size → Numbered (t .layout) s
+    → 1 ≤ t .layout .«identifier_gap» → m ≡ markOf (getD marks (s - 1) 0)
+    → one ≡ sets area 0 (image (t .layout .mode) (gapByte (t .layout .mode) % 2) (run (t .layout .sync) 0 (marked Identifier ∷ [])))
+    → b ≡ 0 + 2 * (t .layout .sync + markBytes (t .layout .mode))
+    → two
+    ≡ sets one b
+    (image (t .layout .mode) (lastBit Identifier)
+    (bytes (checked (t .layout .mode) Identifier (address t s)) (gap (t .layout) (t .layout .«identifier_gap») [])))
+    → c ≡ b + 2 * (4 + 2 + t .layout .«identifier_gap»)
+    → three ≡ sets two c (image (t .layout .mode) (gapByte (t .layout .mode) % 2) (run (t .layout .sync) 0 (marked m ∷ [])))
+    → d ≡ c + 2 * (t .layout .sync + markBytes (t .layout .mode))
+    → four
+    ≡ sets three d
+    (image (t .layout .mode) (lastBit m)
+    (bytes
+    (checked (t .layout .mode) m (take ((s - 1) * t .layout .size + t .layout .size - (s - 1) * t .layout .size) (drop ((s - 1) * t .layout .size) contents)))
+    (gap (t .layout) (t .layout .«block_gap») [])))
+    → four ≡ stretch t contents marks s
+unfolding stretch
+sector-stored t contents marks s m area b c d {one} {two} {three} {four} whole full n gapped o e p f q h r j =
+    let l = t .layout in
+    let a = gapByte (l .mode) % 2 in
+    let k = markOf (getD marks (s - 1) 0) in
+    let xs = slotIn (l .size) s contents in
+    let z : (s - 1) * l .size + l .size - (s - 1) * l .size ≡ l .size = omega arith in
+    let sized = length-slot (l .size) contents s (slotted (l .sectors) (l .size) contents full s (n .0) (n .1)) in
+    let A = image (l .mode) a (run (l .sync) 0 (marked Identifier ∷ [])) in
+    let B = image (l .mode) (lastBit Identifier) (bytes (checked (l .mode) Identifier (address t s)) (gap l (l .«identifier_gap») [])) in
+    let C = image (l .mode) a (run (l .sync) 0 (marked k ∷ [])) in
+    let D = image (l .mode) (lastBit k) (bytes (checked (l .mode) k xs) (gap l (l .«block_gap») [])) in
+    let third : three ≡ sets two c C = rw o at h in
+    let fourth : four ≡ sets three d D = rw (o, z) at j in
+    let all = fourfold area 0 b c d A B C D
+    e (omega (arith, p, length-front (l .mode) a (l .sync) 0 Identifier))
+    f (omega (arith, q, length-body (l .mode) (lastBit Identifier) (l .«identifier_gap») (gapByte (l .mode)) Identifier (address t s)))
+    third (omega (arith, r, length-front (l .mode) a (l .sync) 0 k)) fourth in
+    let parts : A ++ (B ++ (C ++ D)) ≡ image (l .mode) a (sector t s k xs []) =
+    rw (sector-parts t gapped a s k xs, block-parts l a Identifier (address t s), block-parts l a k xs) (simp append-assoc) in
+    all ∙ rw parts (sets-whole area _ (length-sector t a s k xs sized ∙ sym whole))
+
+-- Gap, 00 bytes with the index mark, and gap make the leader.
+pub leader-stored : (l : Layout) (area : List ℕ) (b c fill : ℕ) {one two three : List ℕ} → 1 ≤ l .lead → fill ≡ gapByte (l .mode)
+    → one ≡ sets area 0 (image (l .mode) 0 (run (l .lead) fill [])) → b ≡ 0 + 2 * l .lead
+    → two ≡ sets one b (image (l .mode) (gapByte (l .mode) % 2) (run (l .sync) 0 (marked Index ∷ []))) → c ≡ b + 2 * (l .sync + markBytes (l .mode))
+    → three ≡ sets two c (image (l .mode) 0 (run (l .«index_gap») fill []))
+    → three ≡ sets area 0 (leader l)
+leader-stored l area b c fill some g e p f q h =
     let A = image (l .mode) 0 (run (l .lead) fill []) in
-    let B = image (l .mode) (fill % 2) (run (l .sync) 0 []) in
-    let C = string (l .mode) Index in
-    let D = image (l .mode) 0 (run (l .«index_gap») fill []) in
-    let a : length A ≡ 2 * l .lead = length-run (l .mode) 0 (l .lead) fill in
-    let b : length B ≡ 2 * l .sync = length-run (l .mode) (fill % 2) (l .sync) 0 in
-    let c : length C ≡ 2 * markBytes (l .mode) = length-string (l .mode) Index in
-    let ab : two ≡ sets area 0 (A ++ B) = behind area 0 _ A B e (omega arith) f in
-    let abc : three ≡ sets area 0 ((A ++ B) ++ C) = behind area 0 _ (A ++ B) C ab (omega (arith, length-append A B)) h in
-    let abcd : four ≡ sets area 0 (((A ++ B) ++ C) ++ D) = behind area 0 _ ((A ++ B) ++ C) D abc (omega (arith, length-append A B, length-append (A ++ B) C)) j in
-    let all : ((A ++ B) ++ C) ++ D ≡ leader l = simp append-assoc (sym (rw g (leader-parts l some))) in
-    abcd ∙ rw all
+    let B = image (l .mode) (gapByte (l .mode) % 2) (run (l .sync) 0 (marked Index ∷ [])) in
+    let C = image (l .mode) 0 (run (l .«index_gap») fill []) in
+    let first = length-run (l .mode) 0 (l .lead) fill in
+    let second = length-front (l .mode) (gapByte (l .mode) % 2) (l .sync) 0 Index in
+    let ab = behind area 0 b A B e (omega (arith, p, first)) f in
+    let abc = behind area 0 c (A ++ B) C ab (omega (arith, p, q, first, second, length-append A B)) h in
+    abc ∙ rw (append-assoc A B C, leader-parts l some, ← g)

@@ -1,6 +1,6 @@
--- Laws of the tests that go over the marks and the sectors.
-use mathlib.Core.Path.{_≡_, refl}
-use mathlib.Core.Bool.{Bool, true, false, cond, not, or-true}
+-- Laws of the tests: those that go over the marks and the sectors, place by place, and how one test follows another.
+use mathlib.Core.Path.{_≡_, refl, sym, ap, _∙_}
+use mathlib.Core.Bool.{Bool, true, false, cond}
 use mathlib.Core.List.{List, [], _∷_}
 use Prim.Native.Nat.{ℕ, suc, _+_, _-_, _*_, _<_, _≤_}
 use native.Mathlib.Numerals.{add-one}
@@ -8,28 +8,59 @@ use native.Mathlib.Omega.{arith}
 use lib.ListN.{length, getD, drop, drop-of-length-le}
 use lib.Seq.{drop-cons}
 use borrow.Author.Tests.{eq-eqb, ne-eqb, eqb-true, not-false, lt-ltb, le-ltb}
-use lib.Dec.{eqb}
-use Rattle.layouts.specs.Layouts.{fields, numbers}
-use Rattle.layouts.specs.Refusals.{Test, refusal, areaTest, markTest, controlTest}
-use Rattle.layouts.proofs.Refusals.{refusal-passed}
+use Rattle.verdicts.specs.Tests.{Test, passed, refused, refusal, by}
+use Rattle.verdicts.proofs.Tests.{clash, first-passed}
+use Rattle.layouts.specs.Layouts.{layoutOf, fields, numbers}
+use Rattle.layouts.specs.Refusals.{told, areaTest, markTest, controlTest, trackTests}
+use Rattle.layouts.proofs.Refusals.{told-passed, told-refused, then-passed, then-refused, or-left}
 use Rattle.layouts.specs.declared.Layout.{Layout}
 use Rattle.layouts.specs.declared.Refusal.{Refusal}
-use Rattle.layouts.specs.declared.Refusal.the-variants.{ImageLength, MarkBytes, Overfull}
+use Rattle.layouts.specs.declared.Refusal.the-variants.{ImageLength, MarkBytes, ControlRecord, Overfull}
+use Rattle.layouts.specs.declared.Checked.{Checked}
 use Rattle.layouts.specs.declared.Checked.the-variants.{Passed, Refused}
-use Rattle.format.specs.Refusals.{some, imageTest, marksTest, controlsTest, fieldsTest, fieldTests}
+use Rattle.format.specs.Refusals.{some, trackImageTest, marksTest, controlsTest, fieldsTest, formTests, contentTests}
+
+-- ---- one test
 
 -- What a single test answers tells whether it applies.
-pub one-refused : (t : Test) (f : Refusal) → refusal (t ∷ []) ≡ Refused f → t .applies ≡ true
-unfolding refusal
-one-refused t f e = go (t .applies) e
-  where
-    go : (b : Bool) → cond b (Refused (t .gives)) Passed ≡ Refused f → b ≡ true
-    go true e = refl
-    go false e = let z : _≡_ {A = ℕ} 0 1 = cc in absurd (omega arith)
+module _ (t : Test Refusal) (x : Checked) (e : x ≡ told (refusal (t ∷ []))) where
+  pub one-refused : (f : Refusal) → x ≡ Refused f → t .applies ≡ true
+  unfolding refusal
+  one-refused f h = go (t .applies) (told-refused (refusal (t ∷ [])) x f e h)
+    where
+      go : (b : Bool) → cond b (refused (t .gives)) passed ≡ refused f → b ≡ true
+      go true e = refl
+      go false e = absurd (clash cc)
+
+  pub one-passed : x ≡ Passed → t .applies ≡ false
+  one-passed h = first-passed t [] (told-passed (refusal (t ∷ [])) x e h) .0
+
+-- A test before others applies, or does not.
+module _ {F : Type 0} (t : Test F) (ts : List (Test F)) where
+  pub applied : t .applies ≡ true → refusal (t ∷ ts) ≡ refused (t .gives)
+  unfolding refusal
+  applied e = rw e
+
+  pub passed-by : t .applies ≡ false → refusal (t ∷ ts) ≡ refusal ts
+  unfolding refusal
+  passed-by e = rw e
 
 -- An area that passes has the length that is wanted.
-pub area-right : (wanted given : ℕ) → refusal (areaTest wanted given ∷ []) ≡ Passed → given ≡ wanted
-area-right wanted given e = eqb-true given wanted (not-false _ (refusal-passed _ _ e .0))
+pub area-right : (wanted given : ℕ) (x : Checked) → x ≡ told (refusal (areaTest wanted given ∷ [])) → x ≡ Passed → given ≡ wanted
+area-right wanted given x e h = eqb-true given wanted (not-false _ (one-passed (areaTest wanted given) x e h))
+
+-- Marks that pass are as many as the sectors.
+pub marks-counted : (sectors : ℕ) (marks : List ℕ) → marksTest sectors marks .applies ≡ false → length marks ≡ sectors
+marks-counted sectors marks e = eqb-true (length marks) sectors (not-false _ (or-left _ _ e))
+
+-- Too many or too few marks are wrong; as many as there are sectors are judged one by one.
+pub marks-few : (sectors : ℕ) (marks : List ℕ) → (length marks ≡ sectors → ⊥) → marksTest sectors marks .applies ≡ true
+marks-few sectors marks h = rw (ne-eqb (length marks) sectors h)
+
+pub marks-each : (sectors : ℕ) (marks : List ℕ) → length marks ≡ sectors → marksTest sectors marks .applies ≡ some (λ m. markTest m .applies) marks
+marks-each sectors marks h = rw (eq-eqb (length marks) sectors h)
+
+-- ---- some of a list
 
 module _ (test : ℕ → Bool) where
   -- a place of a list, or of the numbers in order
@@ -73,55 +104,52 @@ control-at cylinder size contents marks i from b f e =
 
 -- ---- the tests one after the other
 
--- The first test applies, or does not.
-pub applied : (t : Test) (ts : List Test) → t .applies ≡ true → refusal (t ∷ ts) ≡ Refused (t .gives)
-unfolding refusal
-applied t ts e = rw e
+-- The form: x tells what 2, 3 and 4 say, and the image is judged behind them.
+module _ (layout cylinder side image : ℕ) (x : Checked) (e : x ≡ told (refusal (trackTests layout cylinder side))) (p : x ≡ Passed)
+    (l : Layout) (known : l ≡ layoutOf layout) where
+  pub form-wrong : (image ≡ l .«image_bytes» → ⊥) → Refused ImageLength ≡ told (refusal (formTests layout cylinder side image))
+  unfolding formTests told by
+  form-wrong h =
+      sym (ap told (applied (trackImageTest (layoutOf layout) image) [] (rw (ne-eqb image (layoutOf layout .«image_bytes») (rw known at h)))))
+      ∙ then-passed (trackTests layout cylinder side) (trackImageTest (layoutOf layout) image ∷ []) x e p
 
-pub passed-by : (t : Test) (ts : List Test) → t .applies ≡ false → refusal (t ∷ ts) ≡ refusal ts
-unfolding refusal
-passed-by t ts e = rw e
+  pub form-right : image ≡ l .«image_bytes» → Passed ≡ told (refusal (formTests layout cylinder side image))
+  unfolding formTests refusal told by
+  form-right h =
+      sym (ap told (passed-by (trackImageTest (layoutOf layout) image) [] (rw (eq-eqb image (layoutOf layout .«image_bytes») (rw known at h)))))
+      ∙ then-passed (trackTests layout cylinder side) (trackImageTest (layoutOf layout) image ∷ []) x e p
 
-module _ (l : Layout) (cylinder : ℕ) (contents marks : List ℕ) (image : ℕ) where
-  -- The tests from 5, from 6, from 7 and from 8 on.
-  abbrev pub fromFields : List Test
-  fromFields = fieldsTest l cylinder contents marks image ∷ []
+-- The contents: x tells what 5 says, and the others follow.
+module _ (l : Layout) (cylinder : ℕ) (contents marks : List ℕ) (image : ℕ) (x : Checked)
+    (e : x ≡ told (refusal (areaTest (l .«area_bytes») (length contents) ∷ []))) where
+  pub area-wrong : (f : Refusal) → x ≡ Refused f → x ≡ told (refusal (contentTests l cylinder contents marks image))
+  unfolding contentTests
+  area-wrong f h = then-refused (areaTest (l .«area_bytes») (length contents) ∷ []) _ x e f h
 
-  abbrev pub fromControls : List Test
-  fromControls = controlsTest l cylinder contents marks image ∷ fromFields
+  module _ (p : x ≡ Passed) where
+    pub marks-wrong : marksTest (l .sectors) marks .applies ≡ true → Refused MarkBytes ≡ told (refusal (contentTests l cylinder contents marks image))
+    unfolding contentTests told by
+    marks-wrong six = sym (ap told (applied (marksTest (l .sectors) marks) _ six)) ∙ then-passed (areaTest (l .«area_bytes») (length contents) ∷ []) _ x e p
 
-  abbrev pub fromMarks : List Test
-  fromMarks = marksTest l cylinder contents marks image ∷ fromControls
+    module _ (six : marksTest (l .sectors) marks .applies ≡ false) where
+      pub controls-wrong : controlsTest l cylinder contents marks .applies ≡ true
+          → Refused ControlRecord ≡ told (refusal (contentTests l cylinder contents marks image))
+      unfolding contentTests told by
+      controls-wrong seven =
+          sym (ap told (passed-by (marksTest (l .sectors) marks) _ six ∙ applied (controlsTest l cylinder contents marks) _ seven))
+          ∙ then-passed (areaTest (l .«area_bytes») (length contents) ∷ []) _ x e p
 
-  abbrev pub fromArea : List Test
-  fromArea = areaTest (l .«area_bytes») (length contents) ∷ fromMarks
+      module _ (seven : controlsTest l cylinder contents marks .applies ≡ false) where
+        from-fields : told (refusal (fieldsTest l image ∷ [])) ≡ told (refusal (contentTests l cylinder contents marks image))
+        unfolding contentTests
+        from-fields =
+            sym (ap told (passed-by (marksTest (l .sectors) marks) _ six ∙ passed-by (controlsTest l cylinder contents marks) _ seven))
+            ∙ then-passed (areaTest (l .«area_bytes») (length contents) ∷ []) _ x e p
 
-  pub image-wrong : (image ≡ l .«image_bytes» → ⊥) → refusal (fieldTests l cylinder contents marks image) ≡ Refused ImageLength
-  unfolding fieldTests
-  image-wrong h = applied (imageTest l cylinder contents marks image) fromArea (rw (ne-eqb image (l .«image_bytes») h))
+        pub fields-over : image < 2 * fields l → Refused Overfull ≡ told (refusal (contentTests l cylinder contents marks image))
+        unfolding told by
+        fields-over h = sym (ap told (applied (fieldsTest l image) [] (lt-ltb image (2 * fields l) h))) ∙ from-fields
 
-  pub image-right : image ≡ l .«image_bytes» → refusal (fieldTests l cylinder contents marks image) ≡ refusal fromArea
-  unfolding fieldTests
-  image-right h = passed-by (imageTest l cylinder contents marks image) fromArea (rw (eq-eqb image (l .«image_bytes») h))
-
-  pub marks-few : (length marks ≡ l .sectors → ⊥) → refusal fromMarks ≡ Refused MarkBytes
-  marks-few h = applied (marksTest l cylinder contents marks image) fromControls (rw (ne-eqb (length marks) (l .sectors) h))
-
-  pub marks-wrong : some (λ m. markTest m .applies) marks ≡ true → refusal fromMarks ≡ Refused MarkBytes
-  marks-wrong e = applied (marksTest l cylinder contents marks image) fromControls (rw e (or-true (not (eqb (length marks) (l .sectors)))))
-
-  pub marks-right : length marks ≡ l .sectors → some (λ m. markTest m .applies) marks ≡ false → refusal fromMarks ≡ refusal fromControls
-  marks-right h e = passed-by (marksTest l cylinder contents marks image) fromControls (rw (eq-eqb (length marks) (l .sectors) h, e))
-
-  -- The sectors' tests, over the marks that there are.
-  pub controls : length marks ≡ l .sectors → (b : Bool)
-      → some (λ s. controlTest cylinder (getD marks (s - 1) 0) (getD contents ((s - 1) * l .size) 0) .applies) (numbers (length marks) 1) ≡ b
-      → controlsTest l cylinder contents marks image .applies ≡ b
-  controls h b e = rw (← h) e
-
-  pub fields-over : image < 2 * fields l → refusal fromFields ≡ Refused Overfull
-  fields-over h = applied (fieldsTest l cylinder contents marks image) [] (lt-ltb image (2 * fields l) h)
-
-  pub fields-within : 2 * fields l ≤ image → refusal fromFields ≡ Passed
-  unfolding refusal
-  fields-within h = rw (le-ltb image (2 * fields l) h)
+        pub fields-within : 2 * fields l ≤ image → Passed ≡ told (refusal (contentTests l cylinder contents marks image))
+        unfolding refusal told by
+        fields-within h = sym (ap told (passed-by (fieldsTest l image) [] (le-ltb image (2 * fields l) h))) ∙ from-fields

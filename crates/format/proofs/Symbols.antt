@@ -1,20 +1,19 @@
 -- Laws of symbols and their image: what follows a field moves out of it, which bit a field leaves behind, and how long its image is.
 -- By induction on the symbols, the bytes and the counts; blocks and sectors are put together from these.
 use mathlib.Core.Path.{_≡_, refl, sym, ap, _∙_}
-use mathlib.Core.List.{List, [], _∷_, _++_, append-assoc}
+use mathlib.Core.List.{List, [], _∷_, _++_, append-assoc, append-nil}
 use Prim.Native.Nat.{ℕ, zero, suc, _+_, _*_, _%_, _≤_}
 use native.Mathlib.Omega.{arith}
 use lib.ListN.{length, length-append}
 use Rattle.cells.specs.Coding.{high, low}
 use Rattle.cells.specs.declared.Mode.{Mode}
-use Rattle.cells.specs.declared.Mode.the-variants.{Fm, Mfm}
 use Rattle.edc.specs.Register.{edcOf, edcBytes}
-use Rattle.format.specs.Order.{Symbol, plain, mark, image, run, bytes, checked, gap, block, sector}
-use Rattle.layouts.specs.Layouts.{gapByte, markBytes, sectorFields}
+use Rattle.format.specs.Order.{Symbol, plain, mark, image, run, bytes, checked, gap, block}
+use Rattle.layouts.specs.Layouts.{gapByte}
 use Rattle.layouts.specs.declared.Layout.{Layout}
-use Rattle.marks.specs.Marks.{string, markByte, covered}
+use Rattle.marks.specs.Marks.{string, lastBit, markBytes, covered}
 use Rattle.marks.specs.declared.Mark.{Mark}
-use Rattle.marks.specs.declared.Mark.the-variants.{Index, Identifier, Data, Control, Open}
+use Rattle.marks.proofs.Spelling.{string-width}
 
 -- ---- any symbols
 
@@ -22,14 +21,7 @@ use Rattle.marks.specs.declared.Mark.the-variants.{Index, Identifier, Data, Con
 unfoldable pub after : ℕ → List Symbol → ℕ
 after a [] = a
 after a (plain x ∷ ss) = after (x % 2) ss
-after a (mark m ∷ ss) = after (markByte m % 2) ss
-
--- The bit after two lists of symbols.
-pub after-append : (a : ℕ) (xs ys : List Symbol) → after a (xs ++ ys) ≡ after (after a xs) ys
-unfolding after
-after-append a [] ys = refl
-after-append a (plain x ∷ xs) ys = after-append (x % 2) xs ys
-after-append a (mark m ∷ xs) ys = after-append (markByte m % 2) xs ys
+after a (mark m ∷ ss) = after (lastBit m) ss
 
 -- The image of two lists of symbols: the first hands on its last bit.
 pub image-append : (mode : Mode) (a : ℕ) (xs ys : List Symbol) → image mode a (xs ++ ys) ≡ image mode a xs ++ image mode (after a xs) ys
@@ -37,8 +29,8 @@ unfolding image after
 image-append mode a [] ys = refl
 image-append mode a (plain x ∷ xs) ys = ap {B = List ℕ} (λ r. high mode a x ∷ low mode x ∷ r) (image-append mode (x % 2) xs ys)
 image-append mode a (mark m ∷ xs) ys =
-    ap {B = List ℕ} (λ r. string mode m ++ r) (image-append mode (markByte m % 2) xs ys)
-    ∙ sym (append-assoc (string mode m) (image mode (markByte m % 2) xs) (image mode (after (markByte m % 2) xs) ys))
+    ap {B = List ℕ} (λ r. string mode m ++ r) (image-append mode (lastBit m) xs ys)
+    ∙ sym (append-assoc (string mode m) (image mode (lastBit m) xs) (image mode (after (lastBit m) xs) ys))
 
 -- The track bytes that symbols take.
 unfoldable pub width : Mode → List Symbol → ℕ
@@ -46,27 +38,14 @@ width mode [] = 0
 width mode (plain x ∷ ss) = 1 + width mode ss
 width mode (mark m ∷ ss) = markBytes mode + width mode ss
 
--- A mark takes two image bytes for each of its track bytes.
-pub length-string : (mode : Mode) (m : Mark) → length (string mode m) ≡ 2 * markBytes mode
-length-string Fm Index = refl
-length-string Fm Identifier = refl
-length-string Fm Data = refl
-length-string Fm Control = refl
-length-string Fm Open = refl
-length-string Mfm Index = refl
-length-string Mfm Identifier = refl
-length-string Mfm Data = refl
-length-string Mfm Control = refl
-length-string Mfm Open = refl
-
--- So do all symbols.
+-- Two image bytes for each of them.
 pub length-image : (mode : Mode) (a : ℕ) (ss : List Symbol) → length (image mode a ss) ≡ 2 * width mode ss
 unfolding image width
 length-image mode a [] = refl
 length-image mode a (plain x ∷ ss) = omega (arith, length-image mode (x % 2) ss)
 length-image mode a (mark m ∷ ss) =
-    let b = markByte m % 2 in
-    omega (arith, length-append (string mode m) (image mode b ss), length-string mode m, length-image mode b ss)
+    let b = lastBit m in
+    omega (arith, length-append (string mode m) (image mode b ss), string-width mode m, length-image mode b ss)
 
 -- ---- a byte k times
 
@@ -87,7 +66,7 @@ after-run a (suc k) x h = go k
     go (suc j) = go j
 
 -- Nothing before a mark matters behind it.
-pub after-mark : (a k x : ℕ) (m : Mark) (ss : List Symbol) → after a (run k x (mark m ∷ ss)) ≡ after (markByte m % 2) ss
+pub after-mark : (a k x : ℕ) (m : Mark) (ss : List Symbol) → after a (run k x (mark m ∷ ss)) ≡ after (lastBit m) ss
 unfolding after run
 after-mark a zero x m ss = refl
 after-mark a (suc k) x m ss = after-mark (x % 2) k x m ss
@@ -99,9 +78,14 @@ image-run mode a k x ss h = rw (run-out k x [] ss, image-append mode a (run k x 
 
 -- The same where a mark follows, for any number of them.
 pub image-mark : (mode : Mode) (a k x : ℕ) (m : Mark) (ss : List Symbol)
-    → image mode a (run k x (mark m ∷ ss)) ≡ image mode a (run k x []) ++ (string mode m ++ image mode (markByte m % 2) ss)
+    → image mode a (run k x (mark m ∷ ss)) ≡ image mode a (run k x []) ++ (string mode m ++ image mode (lastBit m) ss)
 unfolding image
 image-mark mode a k x m ss = ap (image mode a) (run-out k x [] (mark m ∷ ss)) ∙ image-append mode a (run k x []) (mark m ∷ ss)
+
+-- The mark alone behind the bytes.
+pub image-front : (mode : Mode) (a k x : ℕ) (m : Mark) → image mode a (run k x (mark m ∷ [])) ≡ image mode a (run k x []) ++ string mode m
+unfolding image
+image-front mode a k x m = image-mark mode a k x m [] ∙ rw (append-nil (string mode m))
 
 -- Their track bytes.
 pub width-run : (mode : Mode) (k x : ℕ) (ss : List Symbol) → width mode (run k x ss) ≡ k + width mode ss
@@ -145,71 +129,77 @@ pub length-checked : (mode : Mode) (m : Mark) (xs : List ℕ) → length (checke
 unfolding checked
 length-checked mode m xs = length-append xs (edcBytes (edcOf (covered mode m ++ xs)))
 
-module _ (l : Layout) (cylinder side : ℕ) where
+-- The image bytes of bytes and their EDC.
+pub length-bytes : (mode : Mode) (a : ℕ) (m : Mark) (xs : List ℕ) → length (image mode a (bytes (checked mode m xs) [])) ≡ 2 * (length xs + 2)
+unfolding width
+length-bytes mode a m xs = rw (length-image, width-bytes, length-checked) (omega arith)
+
+-- The image of bytes with their EDC, and of what follows them.
+pub image-body : (mode : Mode) (a : ℕ) (m : Mark) (xs : List ℕ) (ss : List Symbol)
+    → image mode a (bytes (checked mode m xs) ss)
+    ≡ image mode a (bytes (checked mode m xs) []) ++ image mode (edcOf (covered mode m ++ xs) % 2) ss
+unfolding checked
+image-body mode a m xs ss =
+    rw (bytes-out (checked mode m xs) [] ss, image-append mode a (bytes (checked mode m xs) []) ss, after-register a xs (edcOf (covered mode m ++ xs)))
+
+-- The image bytes of a mark with bytes before it, and of bytes with their EDC and a run behind them.
+pub length-front : (mode : Mode) (a k x : ℕ) (m : Mark) → length (image mode a (run k x (mark m ∷ []))) ≡ 2 * (k + markBytes mode)
+unfolding width
+length-front mode a k x m = rw (length-image, width-run) (omega arith)
+
+pub length-body : (mode : Mode) (a k x : ℕ) (m : Mark) (xs : List ℕ)
+    → length (image mode a (bytes (checked mode m xs) (run k x []))) ≡ 2 * (length xs + 2 + k)
+unfolding width
+length-body mode a k x m xs = rw (length-image, width-bytes, length-checked, width-run) (omega arith)
+
+module _ (l : Layout) where
   -- ---- a block
 
   -- What follows moves out.
-  pub block-out : (m : Mark) (xs : List ℕ) (ys ss : List Symbol) → block l cylinder side m xs (ys ++ ss) ≡ block l cylinder side m xs ys ++ ss
+  pub block-out : (m : Mark) (xs : List ℕ) (ys ss : List Symbol) → block l m xs (ys ++ ss) ≡ block l m xs ys ++ ss
   unfolding block
   block-out m xs ys ss =
       ap (λ r. run (l .sync) 0 (mark m ∷ r)) (bytes-out (checked (l .mode) m xs) ys ss)
       ∙ run-out (l .sync) 0 (mark m ∷ bytes (checked (l .mode) m xs) ys) ss
 
   -- It leaves the last bit of its EDC.
-  pub after-block : (a : ℕ) (m : Mark) (xs : List ℕ) → after a (block l cylinder side m xs []) ≡ edcOf (covered (l .mode) m ++ xs) % 2
+  pub after-block : (a : ℕ) (m : Mark) (xs : List ℕ) → after a (block l m xs []) ≡ edcOf (covered (l .mode) m ++ xs) % 2
   unfolding block checked
   after-block a m xs =
       after-mark a (l .sync) 0 m (bytes (checked (l .mode) m xs) [])
-      ∙ after-register (markByte m % 2) xs (edcOf (covered (l .mode) m ++ xs))
+      ∙ after-register (lastBit m) xs (edcOf (covered (l .mode) m ++ xs))
 
   -- The image of a block and of what follows it.
   pub image-block : (a : ℕ) (m : Mark) (xs : List ℕ) (ss : List Symbol)
-      → image (l .mode) a (block l cylinder side m xs ss)
-      ≡ image (l .mode) a (block l cylinder side m xs []) ++ image (l .mode) (edcOf (covered (l .mode) m ++ xs) % 2) ss
+      → image (l .mode) a (block l m xs ss) ≡ image (l .mode) a (block l m xs []) ++ image (l .mode) (edcOf (covered (l .mode) m ++ xs) % 2) ss
   image-block a m xs ss = rw (block-out m xs [] ss, image-append (l .mode) a _ ss, after-block a m xs)
+
+  -- It is its mark with the 00 bytes, and what follows the mark.
+  pub block-parts : (a : ℕ) (m : Mark) (xs : List ℕ) (ss : List Symbol)
+      → image (l .mode) a (block l m xs ss)
+      ≡ image (l .mode) a (run (l .sync) 0 (mark m ∷ [])) ++ image (l .mode) (lastBit m) (bytes (checked (l .mode) m xs) ss)
+  unfolding block
+  block-parts a m xs ss =
+      image-mark (l .mode) a (l .sync) 0 m (bytes (checked (l .mode) m xs) ss)
+      ∙ rw (image-front (l .mode) a (l .sync) 0 m, append-assoc)
 
   -- Its track bytes.
   pub width-block : (m : Mark) (xs : List ℕ) (ss : List Symbol)
-      → width (l .mode) (block l cylinder side m xs ss) ≡ l .sync + markBytes (l .mode) + length xs + 2 + width (l .mode) ss
+      → width (l .mode) (block l m xs ss) ≡ l .sync + markBytes (l .mode) + length xs + 2 + width (l .mode) ss
   unfolding width block
   width-block m xs ss = rw (width-run (l .mode) (l .sync) 0, width-bytes, length-checked) (omega arith)
 
-  -- Its image bytes.
-  pub length-block : (a : ℕ) (m : Mark) (xs : List ℕ)
-      → length (image (l .mode) a (block l cylinder side m xs [])) ≡ 2 * (l .sync + markBytes (l .mode) + length xs + 2)
-  unfolding width
-  length-block a m xs = rw (length-image, width-block) (omega arith)
+  -- ---- a block with the gap behind it
 
-  -- ---- a sector
-
-  -- What follows moves out.
-  pub sector-out : (s : ℕ) (m : Mark) (xs : List ℕ) (ys ss : List Symbol)
-      → sector l cylinder side s m xs (ys ++ ss) ≡ sector l cylinder side s m xs ys ++ ss
-  unfolding sector
-  sector-out s m xs ys ss = rw (run-out, block-out, run-out, block-out)
-
-  -- It leaves the gap byte's last bit.
-  pub after-sector : 1 ≤ l .«block_gap» → (a s : ℕ) (m : Mark) (xs : List ℕ)
-      → after a (sector l cylinder side s m xs []) ≡ gapByte (l .mode) % 2
-  unfolding sector
-  after-sector h a s m xs =
-      let last = gap l cylinder side (l .«block_gap») [] in
-      rw (block-out m xs [] last, run-out _ _ _ last, block-out _ _ _ last, after-append a _ last) (after-run _ _ _ h)
-
-  -- The image of a sector and of what follows it.
-  pub image-sector : 1 ≤ l .«block_gap» → (a s : ℕ) (m : Mark) (xs : List ℕ) (ss : List Symbol)
-      → image (l .mode) a (sector l cylinder side s m xs ss)
-      ≡ image (l .mode) a (sector l cylinder side s m xs []) ++ image (l .mode) (gapByte (l .mode) % 2) ss
-  image-sector h a s m xs ss = rw (sector-out s m xs [] ss, image-append (l .mode) a _ ss, after-sector h a s m xs)
-
-  -- Its track bytes.
-  pub width-sector : (s : ℕ) (m : Mark) (xs : List ℕ) (ss : List Symbol) → length xs ≡ l .size
-      → width (l .mode) (sector l cylinder side s m xs ss) ≡ sectorFields l + width (l .mode) ss
-  unfolding sector sectorFields
-  width-sector s m xs ss h = rw (width-block, width-run, width-block, width-run) (omega arith)
+  -- The image of what follows it: the gap leaves its byte's last bit.
+  pub image-spaced : (k : ℕ) → 1 ≤ k → (a : ℕ) (m : Mark) (xs : List ℕ) (ss : List Symbol)
+      → image (l .mode) a (block l m xs (gap l k ss))
+      ≡ image (l .mode) a (block l m xs (gap l k [])) ++ image (l .mode) (gapByte (l .mode) % 2) ss
+  image-spaced k h a m xs ss =
+      rw (image-block a m xs (gap l k ss), image-run (l .mode) _ k (gapByte (l .mode)) ss h, image-block a m xs (gap l k [])) (simp append-assoc)
 
   -- Its image bytes.
-  pub length-sector : (a s : ℕ) (m : Mark) (xs : List ℕ) → length xs ≡ l .size
-      → length (image (l .mode) a (sector l cylinder side s m xs [])) ≡ 2 * sectorFields l
+  pub length-spaced : (k a : ℕ) (m : Mark) (xs : List ℕ)
+      → length (image (l .mode) a (block l m xs (gap l k []))) ≡ 2 * (l .sync + markBytes (l .mode) + length xs + 2 + k)
   unfolding width
-  length-sector a s m xs h = rw (length-image, width-sector) (omega arith)
+  length-spaced k a m xs = rw (length-image, width-block, width-run) (omega arith)

@@ -6,15 +6,15 @@ use native.Mathlib.Nat.{suc-mul, add-comm, sub-zero, mul-left-comm}
 use native.Mathlib.Numerals.{add-one}
 use native.Mathlib.Omega.{arith}
 use borrow.Rule.Slice.PartMut.{putMid}
-use lib.ListN.{length, getD, take, drop}
-use lib.Seq.{sets}
-use Rattle.marks.specs.Marks.{markOf}
-use Rattle.layouts.specs.Layouts.{gapByte, markBytes, fields, sectorFields, numbers}
+use lib.ListN.{length, getD, drop, drop-of-length-le}
+use lib.Seq.{sets, drop-cons}
+use Rattle.marks.specs.Marks.{markBytes}
+use Rattle.layouts.specs.Layouts.{gapByte, fields, sectorFields, Every}
 use Rattle.layouts.specs.declared.Layout.{Layout}
-use Rattle.marks.specs.declared.Mark.{Mark}
-use Rattle.format.specs.Order.{image, run, slot, sector, formatted}
-use Rattle.format.proofs.Symbols.{length-sector}
-use Rattle.format.proofs.Parts.{Spaced, leader, length-leader, length-slot, slotted, slotted-numbers, length-numbers, stretch, stretches, track-parts, length-fields}
+use Rattle.layouts.specs.declared.Track.{Track}
+use Rattle.format.specs.Order.{image, run, Numbered, formatted}
+use Rattle.format.proofs.Parts.{number-at, slotted, slots, length-leader, length-stretch, stretches, track-parts, length-fields}
+use Rattle.format.specs.Aids.{Spaced, leader, stretch}
 use Rattle.cells.proofs.Stores.{sets-append, sets-whole, part-put}
 
 -- What is left of n fields of w bytes, one turn on.
@@ -47,52 +47,39 @@ pub sector-room : (l : Layout) → 8 ≤ sectorFields l
 unfolding sectorFields
 sector-room l = omega arith
 
-module _ (l : Layout) (cylinder side : ℕ) (contents marks : List ℕ) where
+module _ (t : Track) (contents marks order : List ℕ) (long : length contents ≡ t .layout .sectors * t .layout .size)
+    (numbered : Every (Numbered (t .layout)) order) where
   -- One sector is written into its stretch, and the others are to come.
-  pub sectors-turn : (area part : List ℕ) (start width from i : ℕ) (m : Mark) → m ≡ markOf (getD marks i 0) → i < l .sectors → length contents ≡ l .sectors * l .size
-      → width ≡ 2 * sectorFields l → from ≡ i * l .size → start + width ≤ length area
-      → part
-      ≡ image (l .mode) (gapByte (l .mode) % 2)
-      (sector l cylinder side (i + 1) m (take (from + l .size - from) (drop from contents)) [])
-      → sets area start (stretches l cylinder side contents marks (numbers (l .sectors - i) (i + 1)))
-      ≡ sets (putMid start (start + width - start) area part) (start + width) (stretches l cylinder side contents marks (numbers (l .sectors - (i + 1)) (i + 1 + 1)))
-  unfolding stretches stretch
-  sectors-turn area part start width from i m o h c w f room p =
-      let n : l .sectors - i ≡ suc (l .sectors - (i + 1)) = omega arith in
-      let k : i + 1 - 1 ≡ i = omega arith in
-      let z : from + l .size - from ≡ l .size = omega arith in
-      let xs = slot (l .size) (i + 1) contents in
-      let X = image (l .mode) (gapByte (l .mode) % 2) (sector l cylinder side (i + 1) (markOf (getD marks (i + 1 - 1) 0)) xs []) in
-      let same : part ≡ X = p ∙ rw (o, z, f, k) in
-      let long : length X ≡ width =
-      length-sector l cylinder side (gapByte (l .mode) % 2) (i + 1) (markOf (getD marks (i + 1 - 1) 0)) xs
-      (length-slot (l .size) contents (i + 1) (slotted (l .sectors) (l .size) contents c (i + 1) (omega arith) (omega arith)))
-      ∙ sym w in
+  pub sectors-turn : (area part : List ℕ) (start width i : ℕ) → i < length order → width ≡ 2 * sectorFields (t .layout) → start + width ≤ length area
+      → part ≡ stretch t contents marks (getD order i 0)
+      → sets area start (stretches t contents marks (drop i order))
+      ≡ sets (putMid start (start + width - start) area part) (start + width) (stretches t contents marks (drop (i + 1) order))
+  unfolding stretches
+  sectors-turn area part start width i below w room p =
+      let s = getD order i 0 in
+      let X = stretch t contents marks s in
+      let n = number-at (t .layout) order i numbered below in
+      let long : length X ≡ width = length-stretch t contents marks s (slotted (t .layout .sectors) (t .layout .size) contents long s (n .0) (n .1)) ∙ sym w in
       let e : start + width ≡ start + length X = omega arith in
-      let put : putMid start (start + width - start) area part ≡ sets area start X = part-put area part X start (start + width) same (omega arith) room in
-      ap (λ (m : ℕ). sets area start (stretches l cylinder side contents marks (numbers m (i + 1)))) n
-      ∙ rw (put, e, add-one (i + 1)) (sym (sets-append area start X (stretches l cylinder side contents marks (numbers (l .sectors - (i + 1)) (suc (i + 1))))))
+      let put : putMid start (start + width - start) area part ≡ sets area start X = part-put area part X start (start + width) p (omega arith) room in
+      ap (λ (ss : List ℕ). sets area start (stretches t contents marks ss)) (drop-cons order i 0 below)
+      ∙ rw (put, e, add-one i) (sym (sets-append area start X (stretches t contents marks (drop (suc i) order))))
 
   -- The track gap behind the last sector ends the track.
-  pub track-done : (before lead area after : List ℕ) (start₀ start fill i : ℕ) → Spaced l → length before ≡ 2 * fields l
-      → length contents ≡ l .sectors * l .size → l .sectors ≤ i → fill ≡ gapByte (l .mode)
-      → lead ≡ sets before 0 (leader l) → start₀ ≡ 2 * (l .lead + l .sync + markBytes (l .mode) + l .«index_gap»)
-      → sets lead start₀ (stretches l cylinder side contents marks (numbers (l .sectors) 1))
-      ≡ sets area start (stretches l cylinder side contents marks (numbers (l .sectors - i) (i + 1)))
-      → after ≡ sets area start (image (l .mode) (fill % 2) (run (l .«track_gap») fill []))
-      → after ≡ formatted l cylinder side contents marks (numbers (l .sectors) 1)
+  pub track-done : (before lead area after : List ℕ) (start₀ start fill i : ℕ) → Spaced (t .layout) → length before ≡ 2 * fields (t .layout)
+      → length order ≡ t .layout .sectors → length order ≤ i → fill ≡ gapByte (t .layout .mode)
+      → lead ≡ sets before 0 (leader (t .layout))
+      → start₀ ≡ 2 * (t .layout .lead + t .layout .sync + markBytes (t .layout .mode) + t .layout .«index_gap»)
+      → sets lead start₀ (stretches t contents marks order) ≡ sets area start (stretches t contents marks (drop i order))
+      → after ≡ sets area start (image (t .layout .mode) (fill % 2) (run (t .layout .«track_gap») fill []))
+      → after ≡ formatted t contents marks order
   unfolding stretches
-  track-done before lead area after start₀ start fill i spaced whole c past g e s inv a =
-      let n : l .sectors - i ≡ 0 = omega arith in
-      let all = stretches l cylinder side contents marks (numbers (l .sectors) 1) in
-      let s′ : start₀ ≡ 0 + length (leader l) = omega (arith, length-leader l) in
-      let last : sets area start (stretches l cylinder side contents marks (numbers (l .sectors - i) (i + 1))) ≡ after =
-      ap (λ (m : ℕ). sets area start (stretches l cylinder side contents marks (numbers m (i + 1)))) n ∙ sym (rw (← g) a) in
-      sym (
-      rw (track-parts l cylinder side contents marks spaced (numbers (l .sectors) 1)) (
-      sym (sets-whole before (leader l ++ all)
-      (ap length (sym (track-parts l cylinder side contents marks spaced (numbers (l .sectors) 1)))
-      ∙ length-fields l cylinder side contents marks (numbers (l .sectors) 1) (length-numbers (l .sectors) 1) (slotted-numbers (l .sectors) (l .size) contents c)
-      ∙ sym whole))
-      ∙ sym (sets-append before 0 (leader l) all)
-      ∙ rw (← e, ← s′) (inv ∙ last)))
+  track-done before lead area after start₀ start fill i spaced whole counted past g e s inv a =
+      let all = stretches t contents marks order in
+      let s′ : start₀ ≡ 0 + length (leader (t .layout)) = omega (arith, length-leader (t .layout)) in
+      let last : sets area start (stretches t contents marks (drop i order)) ≡ after =
+      ap (λ (ss : List ℕ). sets area start (stretches t contents marks ss)) (drop-of-length-le order past) ∙ sym (rw (← g) a) in
+      let parts = track-parts t contents marks spaced order in
+      let whole : length (leader (t .layout) ++ all) ≡ length before =
+      ap length (sym parts) ∙ length-fields t contents marks order counted (slots (t .layout) contents long order numbered) ∙ sym whole in
+      sym (rw parts (sym (sets-whole before (leader (t .layout) ++ all) whole) ∙ sym (sets-append before 0 (leader (t .layout)) all) ∙ rw (← e, ← s′) (inv ∙ last)))

@@ -11,13 +11,10 @@ use Rattle.cells.specs.declared.Mode.{Mode}
 use Rattle.cells.specs.declared.Mode.the-variants.{Fm, Mfm}
 use Rattle.cells.specs.declared.Pair.{Pair}
 use Rattle.edc.specs.Register.{bytesEntered, edcOf, edcBytes}
-use Rattle.layouts.specs.Layouts.{markBytes}
-use Rattle.marks.specs.Marks.{string, covered, registerAfter, markByte}
+use Rattle.marks.specs.Marks.{string, lastBit, markBytes, covered, registerAfter}
 use Rattle.marks.specs.declared.Mark.{Mark}
-use Rattle.cells.proofs.Stores.{sets-append}
-use Rattle.marks.proofs.Spelling.{register-all}
-use Rattle.format.proofs.Symbols.{image-mark, length-run, length-string}
-use Rattle.format.specs.Order.{Symbol, plain, mark as marked, image, run, pairs, bytes, checked}
+use Rattle.marks.proofs.Spelling.{string-width, register-all}
+use Rattle.format.specs.Order.{Symbol, plain, image, run, bytes, checked}
 
 -- ---- one byte more
 
@@ -30,7 +27,12 @@ plain-stored area after at i mode a x p ss e f =
     let g : suc (suc (at + 2 * i)) ≡ at + 2 * (i + 1) = omega arith in
     rw (e, f, ← g)
 
--- A turn of a run of pairs.
+-- A pair of image bytes k times: how a run is written behind its first byte.
+unfoldable pub pairs : ℕ → Pair → List ℕ
+pairs zero p = []
+pairs (suc k) p = p .first ∷ p .second ∷ pairs k p
+
+-- A turn of the loop over them.
 pub pairs-turn : (area after : List ℕ) (at i n : ℕ) (p : Pair) → i < n → after ≡ sets area (at + 2 * i) (p .first ∷ p .second ∷ [])
     → sets area (at + 2 * i) (pairs (n - i) p) ≡ sets after (at + 2 * (i + 1)) (pairs (n - (i + 1)) p)
 unfolding pairs
@@ -39,33 +41,33 @@ pairs-turn area after at i n p h e =
     let g : suc (suc (at + 2 * i)) ≡ at + 2 * (i + 1) = omega arith in
     ap (λ (k : ℕ). sets area (at + 2 * i) (pairs k p)) f ∙ rw (e, ← g)
 
-pub pairs-end : (area : List ℕ) (at i n : ℕ) (p : Pair) → n ≤ i → sets area at (pairs (n - i) p) ≡ area
+pairs-end : (area : List ℕ) (at i n : ℕ) (p : Pair) → n ≤ i → sets area at (pairs (n - i) p) ≡ area
 unfolding pairs
 pairs-end area at i n p h =
     let f : n - i ≡ 0 = omega arith in
     rw f
 
 -- A byte after its own last bit is coded alike each time.
-pub run-pairs : (mode : Mode) (k x : ℕ) → pairs k (codedByte mode (x % 2) x) ≡ image mode (x % 2) (run k x [])
+run-pairs : (mode : Mode) (k x : ℕ) → pairs k (codedByte mode (x % 2) x) ≡ image mode (x % 2) (run k x [])
 unfolding pairs run image
 run-pairs mode zero x = refl
 run-pairs mode (suc k) x = ap (λ (l : List ℕ). high mode (x % 2) x ∷ low mode x ∷ l) (run-pairs mode k x)
 
--- A run is its first byte and pairs.
-pub run-stored : (area one two : List ℕ) (at n : ℕ) (mode : Mode) (a x : ℕ) (p q : Pair) → 0 < n
-    → one ≡ sets area at (p .first ∷ p .second ∷ []) → p ≡ codedByte mode a x
-    → two ≡ sets one (at + 2) (pairs (n - 1) q) → q ≡ codedByte mode (x % 2) x
+-- The whole run, from its first byte, and from where the loop over the others ended.
+pub run-stored : (area one two : List ℕ) (at i n : ℕ) (mode : Mode) (a x : ℕ) (p q : Pair) → (n ≡ 0 → ⊥) → n ≤ i
+    → one ≡ sets area at (p .first ∷ p .second ∷ []) → p ≡ codedByte mode a x → q ≡ codedByte mode (x % 2) x
+    → sets one (at + 2 * 1) (pairs (n - 1) q) ≡ sets two (at + 2 * i) (pairs (n - i) q)
     → two ≡ sets area at (image mode a (run n x []))
 unfolding run image
-run-stored area one two at n mode a x p q h e f g k =
-    let u : n ≡ suc (n - 1) = omega arith in
-    let v : suc (suc at) ≡ at + 2 = omega arith in
-    g ∙ rw (k, run-pairs mode (n - 1) x, e, f, ← v) (ap (λ (m : ℕ). sets area at (image mode a (run m x []))) (sym u))
+run-stored area one two at i n mode a x p q some past e f k g =
+    let u : n ≡ suc (n - 1) = omega (arith, some) in
+    let v : suc (suc at) ≡ at + 2 * 1 = omega arith in
+    sym (g ∙ pairs-end two (at + 2 * i) i n q past)
+    ∙ rw (k, run-pairs mode (n - 1) x, e, f, ← v) (ap (λ (m : ℕ). sets area at (image mode a (run m x []))) (sym u))
 
-pub run-none : (area : List ℕ) (at n : ℕ) (mode : Mode) (a x : ℕ) → n ≤ 0 → area ≡ sets area at (image mode a (run n x []))
+pub run-none : (area : List ℕ) (at n : ℕ) (mode : Mode) (a x : ℕ) → n ≡ 0 → area ≡ sets area at (image mode a (run n x []))
 unfolding run image
-run-none area at zero mode a x h = refl
-run-none area at (suc n) mode a x h = absurd (omega arith)
+run-none area at n mode a x h = rw h
 
 -- A turn of the loop over bytes; the bytes ys follow them.
 pub bytes-turn : (area after : List ℕ) (at i : ℕ) (mode : Mode) (a : ℕ) (p : Pair) (xs ys : List ℕ) → i < length xs
@@ -91,7 +93,7 @@ edc-stored area one two at i mode a r p q xs h e f g k =
 
 -- The whole field, from where the loop over its bytes ended: r is its register.
 module _ (mode : Mode) (mark : Mark) (xs area₀ area : List ℕ) (at i last₀ last first r : ℕ)
-    (eb : last₀ ≡ markByte mark % 2) (er : first ≡ registerAfter mode mark) (entered : r ≡ bytesEntered first xs)
+    (eb : last₀ ≡ lastBit mark) (er : first ≡ registerAfter mode mark) (entered : r ≡ bytesEntered first xs)
     (stored : sets area₀ at (image mode (last₀ % 2) (bytes (xs ++ edcBytes r) []))
     ≡ sets area (at + 2 * i) (image mode (last % 2) (bytes (drop i xs ++ edcBytes r) [])))
     (past : length xs ≤ i) where
@@ -102,11 +104,11 @@ module _ (mode : Mode) (mark : Mark) (xs area₀ area : List ℕ) (at i last₀ 
   pub checked-done : (one two : List ℕ) (p q : Pair)
       → one ≡ sets area (at + 2 * i) (p .first ∷ p .second ∷ []) → p ≡ codedByte mode (last % 2) (r / 256)
       → two ≡ sets one (at + 2 * i + 2) (q .first ∷ q .second ∷ []) → q ≡ codedByte mode (r / 256 % 2) (r % 256)
-      → (two ≡ sets area₀ at (image mode (markByte mark % 2) (bytes (checked mode mark xs) [])))
+      → (two ≡ sets area₀ at (image mode (lastBit mark) (bytes (checked mode mark xs) [])))
       × (r % 256 % 2 ≡ edcOf (covered mode mark ++ xs) % 2)
   unfolding checked
   checked-done one two p q e f g k =
-      let bit : last₀ % 2 ≡ markByte mark % 2 = omega arith in (
+      let bit : last₀ % 2 ≡ lastBit mark = omega arith in (
         sym (rw (register-done, ← bit) stored ∙ edc-stored area one two at i mode (last % 2) r p q xs past e f g k),
         rw register-done (omega arith),
       )
@@ -121,30 +123,13 @@ copy-turn area bs at i h =
 pub copy-end : (area bs : List ℕ) (at i : ℕ) → length bs ≤ i → sets area at (drop i bs) ≡ area
 copy-end area bs at i h = rw (drop-of-length-le bs h)
 
--- A mark's string, by the mode and the mark that an arm of the code knows.
-pub string-by : (mode : Mode) (mark : Mark) (m : Mode) (k : Mark) (l : List ℕ) (at : ℕ) {r : List ℕ} → mode ≡ m → mark ≡ k → r ≡ sets l at (string m k)
-    → r ≡ sets l at (string mode mark)
-string-by mode mark m k l at e f g = rw (e, f) g
+-- A mark's string, in the mode m that an arm of the code knows.
+pub mark-stored : (mode m : Mode) (mark : Mark) (area copied : List ℕ) (at : ℕ) {after : List ℕ} {behind : ℕ}
+    → mode ≡ m → copied ≡ string m mark → after ≡ sets area at copied → behind ≡ at + length copied
+    → (after ≡ sets area at (string mode mark)) × (behind ≡ at + 2 * markBytes mode)
+mark-stored mode m mark area copied at e f g h = (rw (e, ← f) g, rw e (h ∙ rw f (rw (string-width m mark))))
 
 -- Every mark takes a byte or more.
 pub mark-some : (mode : Mode) → 1 ≤ markBytes mode
 mark-some Fm = omega arith
 mark-some Mfm = omega arith
-
--- ---- fields one behind the other
-
--- A block: the 00 bytes, the mark, and the bytes with their EDC.
-pub block-stored : (area one two three : List ℕ) (at k width : ℕ) (mode : Mode) (a : ℕ) (m : Mark) (ss : List Symbol)
-    → one ≡ sets area at (image mode a (run k 0 []))
-    → two ≡ sets one (at + 2 * k) (string mode m) → width ≡ 2 * markBytes mode
-    → three ≡ sets two (at + 2 * k + width) (image mode (markByte m % 2) ss)
-    → three ≡ sets area at (image mode a (run k 0 (marked m ∷ ss)))
-block-stored area one two three at k width mode a m ss e f w g =
-    let A = image mode a (run k 0 []) in
-    let B = string mode m in
-    let C = image mode (markByte m % 2) ss in
-    let p : at + 2 * k ≡ at + length A = omega (arith, length-run mode a k 0) in
-    let q : at + 2 * k + width ≡ at + length A + length B = omega (arith, length-run mode a k 0, length-string mode m) in
-    let f′ : two ≡ sets one (at + length A) B = rw (← p) f in
-    let g′ : three ≡ sets two (at + length A + length B) C = rw (← q) g in
-    g′ ∙ rw (f′, e) (sets-append (sets area at A) (at + length A) B C ∙ sets-append area at A (B ++ C) ∙ rw (image-mark mode a k 0 m ss))

@@ -2,3 +2,4 @@ pub mod Order
 pub mod Refusals
 pub mod Outcomes
 pub mod Places
+pub mod Aids

@@ -1,7 +1,8 @@
 -- Where a track's sectors stand, by position: the sector at position i from 0 on (01, "Order on the track").
 use Prim.Native.Nat.{ℕ, _+_, _*_}
-use Rattle.layouts.specs.Layouts.{markBytes, sectorFields}
+use Rattle.layouts.specs.Layouts.{sectorFields}
 use Rattle.layouts.specs.declared.Layout.{Layout}
+use Rattle.marks.specs.Marks.{markBytes}
 
 module _ (l : Layout) where
   -- The image byte at which the stretch of the sector at position i begins.

@@ -1,11 +1,17 @@
 // The formatter: exactly the cells that ISO 7065-2 lays down for a track.
-use layouts::Chosen;
+use layouts::Checked;
+use layouts::MOST_SECTORS;
 use layouts::Refusal;
 ghost use Rattle.format.specs.Outcomes.{Formats, IsFormattedNumber};
 
-mod tests;
+mod lengths;
+mod refusals;
 mod track;
 mod write;
+
+// The sector numbers in natural order, of which each layout takes as many as it has sectors.
+const NATURAL: [u8; MOST_SECTORS] =
+    *b"\x01\x02\x03\x04\x05\x06\x07\x08\x09\x0A\x0B\x0C\x0D\x0E\x0F\x10\x11\x12\x13\x14\x15\x16\x17\x18\x19\x1A";
 
 // What format answers.
 pub enum Formatted {
@@ -26,10 +32,12 @@ pub fn format(
 ) -> Formatted
     ensures { λ r. ⌜ Formats layout cylinder side (now («data» .entry)) (now (marks .entry)) (now (image .entry)) r (now (image .exit)) ⌝ }
 {
-    match tests::tested(layout, cylinder, side, data, marks, image.len()) {
-        Chosen::Refused(refusal) => Formatted::Refused(refusal),
-        Chosen::Taken(taken) => {
-            track::write_track(taken, cylinder as u8, side as u8, data, marks, image);
+    match refusals::tested(layout, cylinder, side, data, marks, image.len()) {
+        Checked::Refused(refusal) => Formatted::Refused(refusal),
+        Checked::Passed => {
+            let track = layouts::track_of(layout, cylinder, side);
+            let sectors = track.layout.sectors;
+            track::write_track(track, data, marks, &NATURAL[0..sectors], image);
             Formatted::Written
         }
     }

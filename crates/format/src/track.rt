@@ -1,96 +1,93 @@
-// The track: what stands before the first sector, each sector in its own stretch of the image, and the track gap.
-use super::write::mark_width;
-use super::write::write_mark;
+// The track from its fields: what stands before the first sector, each sector in its own stretch of the image, and the track gap.
+use super::lengths::sector_fields;
+use super::write::write_body;
+use super::write::write_front;
 use super::write::write_run;
-use super::write::write_sector;
 use layouts::Layout;
+use layouts::Track;
 use marks::Mark;
 ghost use mathlib.Core.Path.{_≡_};
-ghost use mathlib.Core.List.{[], _∷_};
 ghost use Prim.Native.Nat.{_+_, _*_, _≤_};
 ghost use lib.ListN.{length};
 ghost use lib.Seq.{sets};
-ghost use Rattle.marks.specs.Marks.{markOf};
-ghost use Rattle.layouts.specs.Layouts.{gapByte, markBytes, fields, sectorFields, numbers};
-ghost use Rattle.marks.specs.declared.Mark.the-variants.{Index};
-ghost use Rattle.format.specs.Order.{mark as marked, image as imageOf, run, formatted};
+ghost use Rattle.marks.specs.Marks.{markBytes};
+ghost use Rattle.layouts.specs.Layouts.{fields, sectorFields, Every};
+ghost use Rattle.format.specs.Order.{Numbered, formatted};
+ghost use Rattle.format.specs.Aids.{leader, stretch as stretchOf, Writable, Filled};
 
-// What stands before the first sector.
-fn write_leader(layout: Layout, image: &mut [u8])
+// What stands before the first sector. The answer is the byte behind it.
+fn write_leader(layout: Layout, image: &mut [u8]) -> usize
     requires { ⌜ (2 * (layout .lead + layout .sync + markBytes (layout .mode) + layout .«index_gap» + 3) ≤ length (now image)) × (1 ≤ layout .lead) ⌝ }
-    ensures { λ _. ⌜ now (image .exit) ≡ sets (now (image .entry)) 0 (imageOf (layout .mode) 0 (run (layout .lead) (gapByte (layout .mode)) (run (layout .sync) 0 (marked Index ∷ run (layout .«index_gap») (gapByte (layout .mode)) [])))) ⌝ }
+    ensures written { λ _. ⌜ now (image .exit) ≡ sets (now (image .entry)) 0 (leader layout) ⌝ }
+    ensures behind { λ r. ⌜ r ≡ 2 * (layout .lead + layout .sync + markBytes (layout .mode) + layout .«index_gap») ⌝ }
 {
     let mode = layout.mode;
     let gap = layouts::gap_byte(mode);
-    let width = mark_width(mode);
-    write_run(mode, 0, gap, layout.lead, image, 0);
-    let sync_at = 2 * layout.lead;
-    write_run(mode, gap % 2, 0, layout.sync, image, sync_at);
-    let mark_at = sync_at + 2 * layout.sync;
-    write_mark(mode, Mark::Index, image, mark_at);
-    let gap_at = mark_at + width;
-    write_run(mode, 0, gap, layout.index_gap, image, gap_at);
+    let sync_at = write_run(mode, 0, gap, layout.lead, image, 0);
+    let gap_at = write_front(mode, layout.sync, Mark::Index, image, sync_at);
+    write_run(mode, 0, gap, layout.index_gap, image, gap_at)
 }
 
-// The track bytes of a sector.
-fn sector_fields(layout: Layout) -> usize
-    requires { ⌜ 2 * sectorFields layout ≤ 9223372036854775807 ⌝ }
-    ensures { λ r. ⌜ r ≡ sectorFields layout ⌝ }
+// A sector in its own stretch of the image, which it fills whole; its mark and its data are looked up by its number.
+fn write_sector(track: Track, number: u8, contents: &[u8], marks: &[u8], stretch: &mut [u8])
+    requires { ⌜ Writable track × Filled (track .layout) (now contents) (now marks) × Numbered (track .layout) number × (length (now stretch) ≡ 2 * sectorFields (track .layout)) ⌝ }
+    ensures { λ _. ⌜ now (stretch .exit) ≡ stretchOf track (now (contents .entry)) (now (marks .entry)) number ⌝ }
 {
+    let layout = track.layout;
     let mode = layout.mode;
-    let width = mark_width(mode) / 2;
-    (layout.sync + width + 4 + 2 + layout.identifier_gap)
-        + (layout.sync + width + layout.size + 2 + layout.block_gap)
+    let address = [
+        track.cylinder as u8,
+        track.side as u8,
+        number,
+        layout.fourth,
+    ];
+    let index = number as usize - 1;
+    let from = index * layout.size;
+    let to = from + layout.size;
+    let mark = marks::mark_of(marks[index]);
+    let address_at = write_front(mode, layout.sync, Mark::Identifier, stretch, 0);
+    let block_at = write_body(
+        mode,
+        Mark::Identifier,
+        &address,
+        layout.identifier_gap,
+        stretch,
+        address_at,
+    );
+    let data_at = write_front(mode, layout.sync, mark, stretch, block_at);
+    write_body(
+        mode,
+        mark,
+        &contents[from..to],
+        layout.block_gap,
+        stretch,
+        data_at,
+    );
 }
 
-// What the layout's fields add up to, in track bytes.
-pub(crate) fn fields_of(layout: Layout) -> usize
-    requires { ⌜ (2 * fields layout ≤ 9223372036854775807) × (1 ≤ layout .sectors) ⌝ }
-    ensures { λ r. ⌜ r ≡ fields layout ⌝ }
-{
-    let mode = layout.mode;
-    let sectors = layout.sectors * sector_fields(layout);
-    layout.lead + layout.sync + mark_width(mode) / 2 + layout.index_gap + sectors + layout.track_gap
-}
-
-// The whole track, with the sectors in natural order. The formatter lends each sector's writer its own stretch of the image.
+// The whole track, with the sectors in the order of the lent numbers. Each sector's writer is lent its own stretch of the image.
 pub(crate) fn write_track(
-    layout: Layout,
-    cylinder: u8,
-    side: u8,
+    track: Track,
     contents: &[u8],
     marks: &[u8],
+    order: &[u8],
     image: &mut [u8],
 )
-    requires { ⌜ (length (now image) ≡ 2 * fields layout) × (length (now contents) ≡ layout .sectors * layout .size) × (length (now marks) ≡ layout .sectors) × (layout .sectors ≤ 255) × (1 ≤ layout .size) × (1 ≤ layout .sectors) ⌝ }
-    requires { ⌜ (1 ≤ layout .lead) × (1 ≤ layout .«index_gap») × (1 ≤ layout .«identifier_gap») × (1 ≤ layout .«block_gap») ⌝ }
-    ensures { λ _. ⌜ now (image .exit) ≡ formatted layout cylinder side (now (contents .entry)) (now (marks .entry)) (numbers (layout .sectors) 1) ⌝ }
+    requires { ⌜ Writable track × Filled (track .layout) (now contents) (now marks) × (length (now image) ≡ 2 * fields (track .layout)) ⌝ }
+    requires { ⌜ (length (now order) ≡ track .layout .sectors) × Every (Numbered (track .layout)) (now order) ⌝ }
+    ensures { λ _. ⌜ now (image .exit) ≡ formatted track (now (contents .entry)) (now (marks .entry)) (now (order .entry)) ⌝ }
 {
-    let mode = layout.mode;
-    let gap = layouts::gap_byte(mode);
-    write_leader(layout, image);
+    let layout = track.layout;
     let stretch = 2 * sector_fields(layout);
-    let size = layout.size;
-    let mut start = 2 * (layout.lead + layout.sync + layout.index_gap) + mark_width(mode);
-    let mut from = 0;
+    let mut start = write_leader(layout, image);
     let mut i = 0;
-    while i < layout.sectors {
+    while i < order.len() {
         let end = start + stretch;
-        let to = from + size;
-        let mark = marks::mark_of(marks[i]);
-        let number = (i + 1) as u8;
-        write_sector(
-            layout,
-            cylinder,
-            side,
-            number,
-            mark,
-            &contents[from..to],
-            &mut image[start..end],
-        );
+        write_sector(track, order[i], contents, marks, &mut image[start..end]);
         start = end;
-        from = to;
         i += 1;
     }
+    let mode = layout.mode;
+    let gap = layouts::gap_byte(mode);
     write_run(mode, gap % 2, gap, layout.track_gap, image, start);
 }

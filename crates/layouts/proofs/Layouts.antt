@@ -1,4 +1,4 @@
--- Laws of the layouts: the numbered ones are the four, taken by cases once, and their numbers add up by computing;
+-- Laws of the layouts: every number has one of the four, taken by cases once, and their numbers add up by computing;
 -- a track takes numbered ones only.
 use mathlib.Core.Path.{_≡_, refl}
 use mathlib.Core.Bool.{Bool, true, false, false≢true, not, _&&_, _||_}
@@ -7,23 +7,32 @@ use native.Mathlib.Omega.{arith}
 use borrow.Author.Tests.{eqb-true, leb-true}
 use lib.Dec.{leb, eqb}
 use Rattle.layouts.specs.declared.Layout.{Layout}
-use Rattle.layouts.specs.Layouts.{layout0, layout1, layout2, layout3, highest, layoutOf, sectorFields, fields, Adds}
+use Rattle.layouts.specs.Layouts.{layout0, layout1, layout2, layout3, highestMfm, highest, layoutOf, sectorFields, fields, Adds}
 use Rattle.layouts.specs.Tracks.{allowed}
 
--- What holds of the four layouts holds of every layout that has a number.
-pub layout-known : (P : Layout → Type 0) → P layout0 → P layout1 → P layout2 → P layout3 → (n : ℕ) → n ≤ highest → P (layoutOf n)
+-- What holds of the four layouts holds of the layout of every number.
+pub every-layout : (P : Layout → Type 0) → P layout0 → P layout1 → P layout2 → P layout3 → (n : ℕ) → P (layoutOf n)
 unfolding layoutOf
-layout-known P p0 p1 p2 p3 zero h = p0
-layout-known P p0 p1 p2 p3 (suc zero) h = p1
-layout-known P p0 p1 p2 p3 (suc (suc zero)) h = p2
-layout-known P p0 p1 p2 p3 (suc (suc (suc zero))) h = p3
-layout-known P p0 p1 p2 p3 (suc (suc (suc (suc n)))) h = absurd (omega arith)
+every-layout P p0 p1 p2 p3 zero = p0
+every-layout P p0 p1 p2 p3 (suc zero) = p1
+every-layout P p0 p1 p2 p3 (suc (suc zero)) = p2
+every-layout P p0 p1 p2 p3 (suc (suc (suc zero))) = p3
+every-layout P p0 p1 p2 p3 (suc (suc (suc (suc n)))) = p0
+
+-- Any other number than those of layouts 1, 2 and 3 has layout 0.
+pub layout-else : (n : ℕ) → (n ≡ 1 → ⊥) → (n ≡ 2 → ⊥) → (n ≡ 3 → ⊥) → layoutOf n ≡ layout0
+unfolding layoutOf
+layout-else zero h1 h2 h3 = refl
+layout-else (suc zero) h1 h2 h3 = absurd (h1 refl)
+layout-else (suc (suc zero)) h1 h2 h3 = absurd (h2 refl)
+layout-else (suc (suc (suc zero))) h1 h2 h3 = absurd (h3 refl)
+layout-else (suc (suc (suc (suc n)))) h1 h2 h3 = refl
 
 -- The numbers of every layout fit each other.
-pub adds : (n : ℕ) → n ≤ highest → Adds (layoutOf n)
+pub adds : (n : ℕ) → Adds (layoutOf n)
 unfolding sectorFields fields
 adds =
-    layout-known Adds
+    every-layout Adds
     (record { area = refl; image = refl; track = refl })
     (record { area = refl; image = refl; track = refl })
     (record { area = refl; image = refl; track = refl })
@@ -43,10 +52,10 @@ unfolding allowed
 allowed-known layout cylinder side h =
     go (eqb cylinder 0 && eqb side 0) (eqb cylinder 0 && eqb side 1) (not (eqb cylinder 0) && leb 1 layout) h
   where
-    go : (a b d : Bool) → (a && eqb layout 0 || b && eqb layout 1 || d && leb layout 3) ≡ true → layout ≤ highest
+    go : (a b d : Bool) → (a && eqb layout 0 || b && eqb layout 1 || d && leb layout highestMfm) ≡ true → layout ≤ highest
     go a b d =
-        either (a && eqb layout 0 || b && eqb layout 1) (d && leb layout 3)
+        either (a && eqb layout 0 || b && eqb layout 1) (d && leb layout highestMfm)
         (either (a && eqb layout 0) (b && eqb layout 1)
         (λ e. omega (arith, eqb-true layout 0 (last a _ e)))
         (λ e. omega (arith, eqb-true layout 1 (last b _ e))))
-        (λ e. leb-true layout 3 (last d _ e))
+        (λ e. omega (arith, leb-true layout highestMfm (last d _ e)))

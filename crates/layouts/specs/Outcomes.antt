@@ -3,12 +3,14 @@ use mathlib.Core.Path.{_≡_}
 use mathlib.Core.List.{[], _∷_}
 use Prim.Native.Nat.{ℕ}
 use Rattle.cells.specs.declared.Mode.{Mode}
+use Rattle.verdicts.specs.Tests.{refusal}
 use Rattle.layouts.specs.declared.Layout.{Layout}
+use Rattle.layouts.specs.declared.Track.{Track}
 use Rattle.layouts.specs.declared.Refusal.{Refusal}
 use Rattle.layouts.specs.declared.Checked.{Checked}
-use Rattle.layouts.specs.declared.Chosen.{Chosen}
 use Rattle.layouts.specs.Layouts.{gapByte, layoutOf}
-use Rattle.layouts.specs.Refusals.{refusalNumber, refusal, taken, imageTest, numberTest, areaTest, markTest, controlTest, sectorTest, trackTests, readingTests}
+use Rattle.layouts.specs.Tracks.{trackOf}
+use Rattle.layouts.specs.Refusals.{refusalNumber, told, imageTest, numberTest, areaTest, markTest, controlTest, sectorTest, trackTests, readingTests}
 
 -- The constants of a layout's type are the definition's.
 abbrev pub IsLayout : Layout → Layout → Type 0
@@ -22,35 +24,42 @@ IsGapByte mode r = r ≡ gapByte mode
 abbrev pub IsRefusalNumber : Refusal → ℕ → Type 0
 IsRefusalNumber f r = r ≡ refusalNumber f
 
--- The layout of the number, or refused 4 above the highest.
-abbrev pub IsNumbered : (layout : ℕ) → Chosen → Type 0
-IsNumbered layout r = r ≡ taken (layoutOf layout) (refusal (numberTest layout ∷ []))
+-- The layout of the number.
+abbrev pub IsLayoutOf : (layout : ℕ) → Layout → Type 0
+IsLayoutOf layout r = r ≡ layoutOf layout
 
--- The layout of the number on the track, or refused by the first of 2, 3, 4.
-abbrev pub IsOnTrack : (layout cylinder side : ℕ) → Chosen → Type 0
-IsOnTrack layout cylinder side r = r ≡ taken (layoutOf layout) (refusal (trackTests layout cylinder side))
+-- The track that a call names.
+abbrev pub IsTrack : (layout cylinder side : ℕ) → Track → Type 0
+IsTrack layout cylinder side r = r ≡ trackOf layout cylinder side
 
--- The layout of the number on the track of an image of this length, or refused by the first of 2, 3, 4, 1.
-abbrev pub IsForReading : (layout cylinder side length : ℕ) → Chosen → Type 0
-IsForReading layout cylinder side length r =
-    r ≡ taken (layoutOf layout) (refusal (readingTests layout cylinder side length))
+-- Passed, or refused 4 above the highest.
+abbrev pub IsLayoutNumber : (layout : ℕ) → Checked → Type 0
+IsLayoutNumber layout r = r ≡ told (refusal (numberTest layout ∷ []))
+
+-- Passed, or refused by the first of 2, 3, 4.
+abbrev pub IsTrackNumbers : (layout cylinder side : ℕ) → Checked → Type 0
+IsTrackNumbers layout cylinder side r = r ≡ told (refusal (trackTests layout cylinder side))
+
+-- Passed, or refused by the first of 2, 3, 4, 1.
+abbrev pub IsTrackAndImage : (layout cylinder side length : ℕ) → Checked → Type 0
+IsTrackAndImage layout cylinder side length r = r ≡ told (refusal (readingTests layout cylinder side length))
 
 -- Passed, or refused 1.
 abbrev pub IsImageLength : (length : ℕ) → Checked → Type 0
-IsImageLength length r = r ≡ refusal (imageTest length ∷ [])
+IsImageLength length r = r ≡ told (refusal (imageTest length ∷ []))
 
 -- Passed, or refused 5.
 abbrev pub IsAreaLength : (wanted given : ℕ) → Checked → Type 0
-IsAreaLength wanted given r = r ≡ refusal (areaTest wanted given ∷ [])
+IsAreaLength wanted given r = r ≡ told (refusal (areaTest wanted given ∷ []))
 
 -- Passed, or refused 6.
 abbrev pub IsMarkByte : (mark : ℕ) → Checked → Type 0
-IsMarkByte mark r = r ≡ refusal (markTest mark ∷ [])
+IsMarkByte mark r = r ≡ told (refusal (markTest mark ∷ []))
 
 -- Passed, or refused 7.
 abbrev pub IsControlRecord : (cylinder mark first : ℕ) → Checked → Type 0
-IsControlRecord cylinder mark first r = r ≡ refusal (controlTest cylinder mark first ∷ [])
+IsControlRecord cylinder mark first r = r ≡ told (refusal (controlTest cylinder mark first ∷ []))
 
 -- Passed, or refused 9.
 abbrev pub IsSectorNumber : (sectors sector : ℕ) → Checked → Type 0
-IsSectorNumber sectors sector r = r ≡ refusal (sectorTest sectors sector ∷ [])
+IsSectorNumber sectors sector r = r ≡ told (refusal (sectorTest sectors sector ∷ []))

@@ -1,16 +1,16 @@
--- The refused calls of 01. A call's tests are a list in the papers' order, and the first that applies gives the refusal.
--- Here stand the tests that several calls share, each with the number that the table "Refused calls" gives it.
-use mathlib.Core.Bool.{Bool, cond, not, _&&_, _||_}
+-- The refusals of 01, with the numbers that its table "Refused calls" gives them, and the tests that several calls share.
+use mathlib.Core.Bool.{not, _&&_, _||_}
 use mathlib.Core.List.{List, [], _∷_, _++_}
 use Prim.Native.Nat.{ℕ}
 use lib.Dec.{ltb, eqb}
-use Rattle.layouts.specs.declared.Layout.{Layout}
+use Rattle.verdicts.specs.Tests.{Test, Verdict, by}
+use Rattle.marks.specs.Marks.{markByte}
+use Rattle.marks.specs.declared.Mark.the-variants.{Data, Control}
 use Rattle.layouts.specs.declared.Refusal.{Refusal}
-use Rattle.layouts.specs.declared.Refusal.the-variants.{ImageLength, CylinderNumber, SideNumber, LayoutNumber, AreaLength, MarkBytes, ControlRecord, Overfull, SectorNumber, Unreadable, OffBoundary, Finished, NoBlock}
+use Rattle.layouts.specs.declared.Refusal.the-variants.{ImageLength, CylinderNumber, SideNumber, LayoutNumber, AreaLength, MarkBytes, ControlRecord}
+use Rattle.layouts.specs.declared.Refusal.the-variants.{Overfull, SectorNumber, Unreadable, OffBoundary, Finished, NoBlock}
 use Rattle.layouts.specs.declared.Checked.{Checked}
 use Rattle.layouts.specs.declared.Checked.the-variants.{Passed, Refused}
-use Rattle.layouts.specs.declared.Chosen.{Chosen}
-use Rattle.layouts.specs.declared.Chosen.the-variants as chosen
 use Rattle.layouts.specs.Layouts.{highest}
 use Rattle.layouts.specs.Tracks.{highestCylinder, highestSide, allowed}
 
@@ -30,78 +30,59 @@ refusalNumber OffBoundary = 11
 refusalNumber Finished = 12
 refusalNumber NoBlock = 13
 
--- A test of a call: whether it applies, and the refusal that it gives.
-pub record Test : Type 0 where
-  pub applies : Bool
-  pub gives : Refusal
-
--- The first test that applies gives the refusal (01, "Refused calls": order).
-unfoldable pub refusal : List Test → Checked
-refusal [] = Passed
-refusal (t ∷ ts) = cond (t .applies) (Refused (t .gives)) (refusal ts)
-
--- The layout, unless the call is refused.
-abbrev pub taken : Layout → Checked → Chosen
-taken l Passed = chosen.Taken l
-taken l (Refused f) = chosen.Refused f
+-- What a function that tests a call answers: the verdict of its tests.
+unfoldable pub told : Verdict Refusal → Checked
+told v = by v Passed Refused
 
 -- The most bytes of an image that is read or rewritten (01, "Refused calls", 1).
 abbrev pub longestImage : ℕ
 longestImage = 24576
-
--- The byte of a data mark (004, 7.4.2.4.1).
-abbrev pub dataMark : ℕ
-dataMark = 0xFB
-
--- The byte of a control mark (004, 7.4.2.4.1).
-abbrev pub controlMark : ℕ
-controlMark = 0xF8
 
 -- CAPITAL LETTER D, the one first byte that a control record has on cylinder 0 (004, 7.4.2.4.3).
 abbrev pub letterD : ℕ
 letterD = 0x44
 
 -- 1, in reading and rewriting: the image is empty or longer than the longest.
-abbrev pub imageTest : ℕ → Test
+abbrev pub imageTest : ℕ → Test Refusal
 imageTest length = record { applies = eqb length 0 || ltb longestImage length; gives = ImageLength }
 
 -- 2: the cylinder is above the highest.
-abbrev pub cylinderTest : ℕ → Test
+abbrev pub cylinderTest : ℕ → Test Refusal
 cylinderTest cylinder = record { applies = ltb highestCylinder cylinder; gives = CylinderNumber }
 
 -- 3: the side is above the highest.
-abbrev pub sideTest : ℕ → Test
+abbrev pub sideTest : ℕ → Test Refusal
 sideTest side = record { applies = ltb highestSide side; gives = SideNumber }
 
 -- 4: the layout is not allowed on this track; above the highest it is on none.
-abbrev pub trackTest : (layout cylinder side : ℕ) → Test
+abbrev pub trackTest : (layout cylinder side : ℕ) → Test Refusal
 trackTest layout cylinder side = record { applies = not (allowed layout cylinder side); gives = LayoutNumber }
 
 -- 4, where no track is named: the layout is above the highest.
-abbrev pub numberTest : ℕ → Test
+abbrev pub numberTest : ℕ → Test Refusal
 numberTest layout = record { applies = ltb highest layout; gives = LayoutNumber }
 
 -- 5: the data area has another length than is wanted.
-abbrev pub areaTest : (wanted given : ℕ) → Test
+abbrev pub areaTest : (wanted given : ℕ) → Test Refusal
 areaTest wanted given = record { applies = not (eqb given wanted); gives = AreaLength }
 
 -- 6, of one mark: it is neither FB nor F8.
-abbrev pub markTest : ℕ → Test
-markTest mark = record { applies = not (eqb mark dataMark) && not (eqb mark controlMark); gives = MarkBytes }
+abbrev pub markTest : ℕ → Test Refusal
+markTest mark = record { applies = not (eqb mark (markByte Data)) && not (eqb mark (markByte Control)); gives = MarkBytes }
 
 -- 7: cylinder 0, mark F8, and the first data byte is not D.
-abbrev pub controlTest : (cylinder mark first : ℕ) → Test
+abbrev pub controlTest : (cylinder mark first : ℕ) → Test Refusal
 controlTest cylinder mark first =
-    record { applies = eqb cylinder 0 && eqb mark controlMark && not (eqb first letterD); gives = ControlRecord }
+    record { applies = eqb cylinder 0 && eqb mark (markByte Control) && not (eqb first letterD); gives = ControlRecord }
 
 -- 9: the sector number is 0 or above the count.
-abbrev pub sectorTest : (sectors sector : ℕ) → Test
+abbrev pub sectorTest : (sectors sector : ℕ) → Test Refusal
 sectorTest sectors sector = record { applies = eqb sector 0 || ltb sectors sector; gives = SectorNumber }
 
 -- 2, 3, 4: how format, read and the rewrite request begin.
-unfoldable pub trackTests : (layout cylinder side : ℕ) → List Test
+unfoldable pub trackTests : (layout cylinder side : ℕ) → List (Test Refusal)
 trackTests layout cylinder side = cylinderTest cylinder ∷ sideTest side ∷ trackTest layout cylinder side ∷ []
 
 -- 2, 3, 4, 1: how read and the rewrite request begin.
-unfoldable pub readingTests : (layout cylinder side length : ℕ) → List Test
+unfoldable pub readingTests : (layout cylinder side length : ℕ) → List (Test Refusal)
 readingTests layout cylinder side length = trackTests layout cylinder side ++ (imageTest length ∷ [])

@@ -1,8 +1,10 @@
 -- Which tracks there are, and which layouts a track takes: 01, "The image and the four layouts".
--- A track is named by its cylinder and its side.
+-- A call names a track by its layout, its cylinder and its side.
 use mathlib.Core.Bool.{Bool, not, _&&_, _||_}
 use Prim.Native.Nat.{ℕ}
 use lib.Dec.{leb, eqb}
+use Rattle.layouts.specs.declared.Track.{Track}
+use Rattle.layouts.specs.Layouts.{highestMfm, layoutOf}
 
 -- Cylinders are numbered from 0 to this (004, 6.2.2.1).
 abbrev pub highestCylinder : ℕ
@@ -17,4 +19,8 @@ unfoldable pub allowed : (layout cylinder side : ℕ) → Bool
 allowed layout cylinder side =
     eqb cylinder 0 && eqb side 0 && eqb layout 0
     || eqb cylinder 0 && eqb side 1 && eqb layout 1
-    || not (eqb cylinder 0) && leb 1 layout && leb layout 3
+    || not (eqb cylinder 0) && leb 1 layout && leb layout highestMfm
+
+-- The track that a call names by layout, cylinder and side (01, "How a track is read").
+abbrev pub trackOf : (layout cylinder side : ℕ) → Track
+trackOf layout cylinder side = record { layout = layoutOf layout; cylinder = cylinder; side = side }

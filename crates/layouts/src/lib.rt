@@ -1,14 +1,17 @@
-// The layouts of a track, and the refusals that several calls share. A layout is a value made of its type's constants.
-// A function that tests a call answers with an enum, so that its caller goes on only with what has passed; the tests stand
-// in the order of the papers, and the first that applies gives the refusal.
+// The layouts of a track, and the refusals that several calls share. A layout is a value made of its type's constants, and a track
+// a layout with its place on the disk. A function that tests a call is named after what it tests; the tests stand in the order of the
+// papers, and the first that applies gives the refusal.
 ghost use mathlib.Core.Path.{_≡_};
 ghost use mathlib.Core.List.{[], _∷_};
-ghost use Prim.Native.Nat.{_≤_};
-ghost use Rattle.layouts.specs.Layouts.{highest, layoutOf};
+ghost use Rattle.verdicts.specs.Tests.{refusal};
 ghost use Rattle.layouts.specs.Tracks.{allowed};
-ghost use Rattle.layouts.specs.Refusals.{refusal};
-ghost use Rattle.layouts.specs.Outcomes.{IsGapByte, IsRefusalNumber, IsNumbered, IsOnTrack, IsForReading, IsImageLength, IsAreaLength, IsMarkByte, IsControlRecord, IsSectorNumber};
+ghost use Rattle.layouts.specs.Refusals.{told};
+ghost use Rattle.layouts.specs.Outcomes.{IsGapByte, IsRefusalNumber, IsLayoutOf, IsTrack};
+ghost use Rattle.layouts.specs.Outcomes.{IsLayoutNumber, IsTrackNumbers, IsTrackAndImage};
+ghost use Rattle.layouts.specs.Outcomes.{IsImageLength, IsAreaLength, IsMarkByte, IsControlRecord, IsSectorNumber};
 use cells::Mode;
+use marks::CONTROL_MARK;
+use marks::DATA_MARK;
 
 mod table;
 
@@ -18,8 +21,11 @@ pub use table::Layout1;
 pub use table::Layout2;
 pub use table::Layout3;
 
+// The MFM layouts are numbered from 1 to this.
+pub const HIGHEST_MFM: u32 = 3;
+
 // The highest layout number.
-pub const HIGHEST: u32 = 3;
+pub const HIGHEST: u32 = HIGHEST_MFM;
 
 // The most sectors that a layout has.
 pub const MOST_SECTORS: usize = 26;
@@ -32,12 +38,6 @@ pub const HIGHEST_SIDE: u32 = 1;
 
 // The most bytes of an image that is read or rewritten.
 pub const LONGEST_IMAGE: usize = 24576;
-
-// The byte of a data mark.
-pub const DATA_MARK: u32 = 0xFB;
-
-// The byte of a control mark.
-pub const CONTROL_MARK: u32 = 0xF8;
 
 // CAPITAL LETTER D, the one first byte that a control record has on cylinder 0.
 pub const LETTER_D: u8 = 0x44;
@@ -72,6 +72,16 @@ pub struct Layout {
     pub area_bytes: usize,
 }
 
+// A track, as a call names it.
+pub struct Track {
+    // its layout
+    pub layout: Layout,
+    // its cylinder number
+    pub cylinder: u32,
+    // its side number
+    pub side: u32,
+}
+
 // Why a call is refused, in the order of the papers' numbers.
 pub enum Refusal {
     // image length: read and rewrite 1 to LONGEST_IMAGE bytes; format the table's value
@@ -102,18 +112,10 @@ pub enum Refusal {
     NoBlock,
 }
 
-// The answer of tests that choose nothing.
+// The answer of a function that tests a call.
 pub enum Checked {
     // no test applies
     Passed,
-    // the first test that applies gives this
-    Refused(Refusal),
-}
-
-// The answer of tests that choose a layout.
-pub enum Chosen {
-    // no test applies, and this is the layout
-    Taken(Layout),
     // the first test that applies gives this
     Refused(Refusal),
 }
@@ -149,16 +151,26 @@ pub fn refusal_number(refusal: Refusal) -> u8
     }
 }
 
-// The layout of a number that there is.
-fn layout_of(layout: u32) -> Layout
-    requires { ⌜ layout ≤ highest ⌝ }
-    ensures { λ r. ⌜ r ≡ layoutOf layout ⌝ }
+// The layout of a number. Above the highest there is none, and the calls are refused; layout 0 fills in.
+pub fn layout_of(layout: u32) -> Layout
+    ensures { λ r. ⌜ IsLayoutOf layout r ⌝ }
 {
     match layout {
-        0 => Layout0::layout(),
         1 => Layout1::layout(),
         2 => Layout2::layout(),
-        _ => Layout3::layout(),
+        3 => Layout3::layout(),
+        _ => Layout0::layout(),
+    }
+}
+
+// The track that a call names.
+pub fn track_of(layout: u32, cylinder: u32, side: u32) -> Track
+    ensures { λ r. ⌜ IsTrack layout cylinder side r ⌝ }
+{
+    Track {
+        layout: layout_of(layout),
+        cylinder: cylinder,
+        side: side,
     }
 }
 
@@ -168,12 +180,12 @@ fn is_allowed(layout: u32, cylinder: u32, side: u32) -> bool
 {
     (cylinder == 0) & (side == 0) & (layout == 0)
         | (cylinder == 0) & (side == 1) & (layout == 1)
-        | (cylinder != 0) & (1 <= layout) & (layout <= 3)
+        | (cylinder != 0) & (1 <= layout) & (layout <= HIGHEST_MFM)
 }
 
 // What one test says. Its flags are joined by `|` and `&`: there is no branch that a proof would have to follow.
 fn tested(applies: bool, gives: Refusal) -> Checked
-    ensures { λ r. ⌜ r ≡ refusal (record { applies = applies; gives = gives } ∷ []) ⌝ }
+    ensures { λ r. ⌜ r ≡ told (refusal (record { applies = applies; gives = gives } ∷ [])) ⌝ }
 {
     if applies {
         return Checked::Refused(gives);
@@ -181,30 +193,24 @@ fn tested(applies: bool, gives: Refusal) -> Checked
     Checked::Passed
 }
 
-// The layout of a number where no track is named: refused 4.
-pub fn numbered(layout: u32) -> Chosen
-    ensures { λ r. ⌜ IsNumbered layout r ⌝ }
+// The number of a layout where no track is named: refused 4.
+pub fn layout_number(layout: u32) -> Checked
+    ensures { λ r. ⌜ IsLayoutNumber layout r ⌝ }
 {
-    if HIGHEST < layout {
-        return Chosen::Refused(Refusal::LayoutNumber);
-    }
-    Chosen::Taken(layout_of(layout))
+    tested(HIGHEST < layout, Refusal::LayoutNumber)
 }
 
-// The layout of a number on a track: refused 2, 3 or 4.
-pub fn on_track(layout: u32, cylinder: u32, side: u32) -> Chosen
-    ensures { λ r. ⌜ IsOnTrack layout cylinder side r ⌝ }
+// The numbers of a track: refused 2, 3 or 4.
+pub fn track_numbers(layout: u32, cylinder: u32, side: u32) -> Checked
+    ensures { λ r. ⌜ IsTrackNumbers layout cylinder side r ⌝ }
 {
     if HIGHEST_CYLINDER < cylinder {
-        return Chosen::Refused(Refusal::CylinderNumber);
+        return Checked::Refused(Refusal::CylinderNumber);
     }
     if HIGHEST_SIDE < side {
-        return Chosen::Refused(Refusal::SideNumber);
+        return Checked::Refused(Refusal::SideNumber);
     }
-    if !is_allowed(layout, cylinder, side) {
-        return Chosen::Refused(Refusal::LayoutNumber);
-    }
-    Chosen::Taken(layout_of(layout))
+    tested(!is_allowed(layout, cylinder, side), Refusal::LayoutNumber)
 }
 
 // The length of an image that is read or rewritten: refused 1.
@@ -217,18 +223,15 @@ pub fn image_length(length: usize) -> Checked
     )
 }
 
-// The layout of a number on a track whose image is read or rewritten: refused 2, 3, 4 or 1.
-pub fn for_reading(layout: u32, cylinder: u32, side: u32, length: usize) -> Chosen
-    ensures { λ r. ⌜ IsForReading layout cylinder side length r ⌝ }
+// The numbers of a track, and the length of its image that is read or rewritten: refused 2, 3, 4 or 1.
+pub fn track_and_image(layout: u32, cylinder: u32, side: u32, length: usize) -> Checked
+    ensures { λ r. ⌜ IsTrackAndImage layout cylinder side length r ⌝ }
 {
-    let chosen = on_track(layout, cylinder, side);
-    let Chosen::Taken(_) = chosen else {
-        return chosen;
+    let numbers = track_numbers(layout, cylinder, side);
+    let Checked::Passed = numbers else {
+        return numbers;
     };
-    let Checked::Refused(refusal) = image_length(length) else {
-        return chosen;
-    };
-    Chosen::Refused(refusal)
+    image_length(length)
 }
 
 // The length of a data area: refused 5.

@@ -1,8 +1,2 @@
+-- Bytes that stand at a cell, and the laws of the ten strings.
 pub mod Spelling
-pub mod Searching
-pub mod Numbers
-pub mod Begins
-pub mod Clash
-pub mod Telling
-pub mod Firsts
-pub mod Passing

@@ -2,7 +2,7 @@
 use mathlib.Core.Path.{_≡_, refl, sym, ap, ap₂, _∙_}
 use mathlib.Core.Bool.{Bool, true, false, _&&_, and-eq-true-iff}
 use mathlib.Core.List.{List, [], _∷_, _++_}
-use Prim.Native.Nat.{ℕ, _+_, _-_, _*_, _<_, _≤_}
+use Prim.Native.Nat.{ℕ, _+_, _-_, _*_, _%_, _<_, _≤_}
 use native.Mathlib.Numerals.{add-one}
 use native.Mathlib.Omega.{arith}
 use lib.Dec.{eqb, leb}
@@ -14,7 +14,7 @@ use Rattle.cells.specs.declared.Mode.{Mode}
 use Rattle.cells.specs.declared.Mode.the-variants.{Fm, Mfm}
 use Rattle.edc.specs.Register.{bytesEntered, edcOf}
 use Rattle.edc.proofs.Laws.{bytes-append}
-use Rattle.marks.specs.Marks.{string, covered, registerAfter, spells, lies, stands}
+use Rattle.marks.specs.Marks.{string, markBytes, markLast, lastByte, lastBit, covered, registerAfter, spells, lies, stands}
 use Rattle.marks.specs.declared.Mark.{Mark}
 use Rattle.marks.specs.declared.Mark.the-variants.{Index, Identifier, Data, Control, Open}
 
@@ -87,25 +87,26 @@ stand-one c p [] (y ∷ ys) h e f = absurd (omega arith)
 stand-one c p (x ∷ xs) [] h e f = absurd (omega arith)
 stand-one c p (x ∷ xs) (y ∷ ys) h e f = ap₂ _∷_ (sym (e .0) ∙ f .0) (stand-one c (p + 8) xs ys (omega arith) (e .1) (f .1))
 
+-- A string has two image bytes for each track byte of a mark.
+pub string-width : (mode : Mode) (mark : Mark) → length (string mode mark) ≡ 2 * markBytes mode
+string-width Fm Index = refl
+string-width Fm Identifier = refl
+string-width Fm Data = refl
+string-width Fm Control = refl
+string-width Fm Open = refl
+string-width Mfm Index = refl
+string-width Mfm Identifier = refl
+string-width Mfm Data = refl
+string-width Mfm Control = refl
+string-width Mfm Open = refl
+
 pub string-length : (mode : Mode) (k l : Mark) → length (string mode k) ≡ length (string mode l)
-string-length mode k l = all mode k ∙ sym (all mode l)
-  where
-    all : (mode : Mode) (k : Mark) → length (string mode k) ≡ length (string mode Open)
-    all Fm Index = refl
-    all Fm Identifier = refl
-    all Fm Data = refl
-    all Fm Control = refl
-    all Fm Open = refl
-    all Mfm Index = refl
-    all Mfm Identifier = refl
-    all Mfm Data = refl
-    all Mfm Control = refl
-    all Mfm Open = refl
+string-length mode k l = string-width mode k ∙ sym (string-width mode l)
 
 pub string-two : (mode : Mode) (mark : Mark) → 2 ≤ length (string mode mark)
-string-two mode mark = rw (string-length mode mark Open) (two mode)
+string-two mode mark = rw (string-width mode mark) (two mode)
   where
-    two : (mode : Mode) → 2 ≤ length (string mode Open)
+    two : (mode : Mode) → 2 ≤ 2 * markBytes mode
     two Fm = omega arith
     two Mfm = omega arith
 
@@ -169,11 +170,26 @@ pub is-false : (b : Bool) → (b ≡ true → ⊥) → b ≡ false
 is-false true h = absurd (h refl)
 is-false false h = refl
 
--- What stands, by the mode and the mark that an arm of the code knows.
-pub stands-by : {mode : Mode} {mark : Mark} (m : Mode) (k : Mark) (c : ℕ → ℕ) (n p : ℕ) (r : Bool) → mode ≡ m → mark ≡ k
-    → r ≡ lies c n (string m k) p → r ≡ stands mode c n mark p
+-- What stands, by the mode that an arm of the code knows and the string that it was handed.
+pub stands-by : {mode : Mode} {bs : List ℕ} (m : Mode) (mark : Mark) (c : ℕ → ℕ) (n p : ℕ) (r : Bool) → mode ≡ m → bs ≡ string m mark
+    → r ≡ lies c n bs p → r ≡ stands mode c n mark p
 unfolding stands
-stands-by m k c n p r e f g = rw (e, f) g
+stands-by m mark c n p r e f g = rw e (rw f at g)
+
+-- The same of the last byte; and the last bit is the last cell of a mark.
+pub last-by : {mode : Mode} {bs : List ℕ} (m : Mode) (mark : Mark) → mode ≡ m → bs ≡ string m mark → getD bs (markLast m) 0 ≡ lastByte mode mark
+unfolding lastByte
+last-by m mark e f = rw (e, f)
+
+pub last-bit-of : (mark : Mark) {bs : List ℕ} → bs ≡ string Fm mark → getD bs 1 0 % 2 ≡ lastBit mark
+last-bit-of mark f = rw f (each mark)
+  where
+    each : (mark : Mark) → getD (string Fm mark) 1 0 % 2 ≡ lastBit mark
+    each Index = refl
+    each Identifier = refl
+    each Data = refl
+    each Control = refl
+    each Open = refl
 
 -- The same of the register once the mark has entered it.
 pub register-by : {mode : Mode} {mark : Mark} (m : Mode) (k : Mark) (r : ℕ) → mode ≡ m → mark ≡ k → r ≡ edcOf (covered m k) → r ≡ registerAfter mode mark

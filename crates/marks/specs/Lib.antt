@@ -1,4 +1,2 @@
 pub mod Marks
-pub mod Search
 pub mod Outcomes
-pub mod Aids

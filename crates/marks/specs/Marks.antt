@@ -2,9 +2,9 @@
 -- As in cells, c i is cell i of an image, and n the number of its cells.
 use mathlib.Core.Bool.{Bool, true, cond, _&&_}
 use mathlib.Core.List.{List, [], _∷_}
-use Prim.Native.Nat.{ℕ, _+_, _*_}
+use Prim.Native.Nat.{ℕ, _+_, _-_, _*_, _%_}
 use lib.Dec.{eqb, leb}
-use lib.ListN.{length}
+use lib.ListN.{length, getD}
 use Rattle.cells.specs.Cells.{octet}
 use Rattle.cells.specs.declared.Mode.{Mode}
 use Rattle.cells.specs.declared.Mode.the-variants.{Fm, Mfm}
@@ -32,6 +32,27 @@ markByte Identifier = 0xFE
 markByte Data = 0xFB
 markByte Control = 0xF8
 markByte Open = 0xF9
+
+-- The last bit of a mark, which the clock cell behind it follows.
+abbrev pub lastBit : Mark → ℕ
+lastBit mark = markByte mark % 2
+
+-- The track bytes of a mark: in MFM three A1* or C2* stand before its own byte (004, 5.1, 5.2.1, 6.1 and 6.2.1).
+abbrev pub markBytes : Mode → ℕ
+markBytes Fm = 1
+markBytes Mfm = 4
+
+-- The cells of a mark: sixteen for each of its track bytes.
+abbrev pub markCells : Mode → ℕ
+markCells mode = 16 * markBytes mode
+
+-- How far behind a mark's first image byte its last one stands.
+abbrev pub markLast : Mode → ℕ
+markLast mode = 2 * markBytes mode - 1
+
+-- The last image byte of a mark: of the open mark 49 in MFM and 6B in FM.
+unfoldable pub lastByte : Mode → Mark → ℕ
+lastByte mode mark = getD (string mode mark) (markLast mode) 0
 
 -- The mark that a mark byte F8 or FB asks for (004, 7.4.2.4.1).
 abbrev pub markOf : ℕ → Mark

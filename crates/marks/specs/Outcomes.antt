@@ -6,15 +6,28 @@ use Prim.Native.Nat.{ℕ, _*_, _≤_}
 use lib.ListN.{length}
 use Rattle.cells.specs.Cells.{cell}
 use Rattle.cells.specs.declared.Mode.{Mode}
-use Rattle.marks.specs.Marks.{markOf, stands, registerAfter}
-use Rattle.marks.specs.Search.{standing, firstMark}
+use Rattle.marks.specs.Marks.{string, markBytes, lastByte, lastBit, markOf, stands, registerAfter}
 use Rattle.marks.specs.declared.Mark.{Mark}
-use Rattle.marks.specs.declared.Kinds.{Kinds}
-use Rattle.marks.specs.declared.Found.{Found}
 
 -- The house bound: an image of at most 2^28 bytes, so that the number of its cells is far from wrapping.
 abbrev pub Housed : List ℕ → Type 0
 Housed image = length image ≤ 268435456
+
+-- `fm_string` and `mfm_string` answer the image bytes of a mark in their mode.
+abbrev pub IsString : Mode → Mark → List ℕ → Type 0
+IsString mode mark answer = answer ≡ string mode mark
+
+-- `mark_bytes` answers how many track bytes a mark has; they are few, so that no sum with them is near to wrapping.
+abbrev pub AreMarkBytes : Mode → ℕ → Type 0
+AreMarkBytes mode answer = (answer ≡ markBytes mode) × (1 ≤ answer) × (answer ≤ 4)
+
+-- `last_byte` answers the last image byte of a mark.
+abbrev pub IsLastByte : Mode → Mark → ℕ → Type 0
+IsLastByte mode mark answer = answer ≡ lastByte mode mark
+
+-- `last_bit` answers the last bit of a mark.
+abbrev pub IsLastBit : Mark → ℕ → Type 0
+IsLastBit mark answer = answer ≡ lastBit mark
 
 -- `stands` answers whether the mark stands at a place of the image.
 abbrev pub TellsStanding : Mode → Mark → List ℕ → ℕ → Bool → Type 0
@@ -27,11 +40,3 @@ IsRegisterAfter mode mark answer = answer ≡ registerAfter mode mark
 -- `mark_of` answers the mark that a mark byte asks for.
 abbrev pub IsMarkOf : (byte : ℕ) → Mark → Type 0
 IsMarkOf byte answer = answer ≡ markOf byte
-
--- `mark_at` answers which mark of the kinds a byte of the image begins, with its place, or that none does.
-abbrev pub IsMarkAt : Mode → Kinds → List ℕ → (byte : ℕ) → Found → Type 0
-IsMarkAt mode kinds image byte answer = answer ≡ standing mode (cell image) (8 * length image) kinds (8 * byte)
-
--- `find` answers the first mark of the kinds from one cell of the image up to another, with its place, or that there is none.
-abbrev pub IsFirstMark : Mode → Kinds → List ℕ → ℕ → ℕ → Found → Type 0
-IsFirstMark mode kinds image from to answer = answer ≡ firstMark mode (cell image) (8 * length image) kinds from to

@@ -1,14 +1,13 @@
-// The marks of a track: fixed strings of image bytes, compared at any cell, and the search for the first of given kinds.
+// The marks of a track: fixed strings of image bytes, compared at any cell, and all that is known of one: its width, its last byte and
+// bit, and the register of the EDC behind it.
 use cells::Mode;
 ghost use mathlib.Core.Path.{_≡_};
 ghost use Prim.Native.Nat.{_+_, _*_, _≤_};
 ghost use lib.ListN.{length};
 ghost use Rattle.cells.specs.Cells.{cell};
+ghost use Rattle.cells.specs.declared.Mode.the-variants.{Fm, Mfm};
 ghost use Rattle.marks.specs.Marks.{spells, lies};
-ghost use Rattle.marks.specs.Outcomes.{Housed, TellsStanding, IsRegisterAfter, IsMarkOf, IsMarkAt, IsFirstMark};
-
-mod places;
-mod tables;
+ghost use Rattle.marks.specs.Outcomes.{Housed, IsString, AreMarkBytes, IsLastByte, IsLastBit, TellsStanding, IsRegisterAfter, IsMarkOf};
 
 // The marks: FC, FE, FB, F8, and the house mark F9 of a rewrite under way.
 pub enum Mark {
@@ -19,19 +18,7 @@ pub enum Mark {
     Open,
 }
 
-// The kinds of mark that a search looks for: identifier marks, and the marks of a block, which are data, control and open.
-pub struct Kinds {
-    pub identifier: bool,
-    pub block: bool,
-}
-
-// What a search finds: the first such mark, with the cell at which it begins.
-pub enum Found {
-    At(usize, Mark),
-    Nothing,
-}
-
-// The image bytes of each mark, which are compared at a place and written by the formatter.
+// The image bytes of each mark. They stand here alone: whoever writes or compares a mark takes them from here.
 pub const INDEX_FM: [u8; 2] = *b"\xF7\x7A";
 
 pub const IDENTIFIER_FM: [u8; 2] = *b"\xF5\x7E";
@@ -51,6 +38,64 @@ pub const DATA_MFM: [u8; 8] = *b"\x44\x89\x44\x89\x44\x89\x55\x45";
 pub const CONTROL_MFM: [u8; 8] = *b"\x44\x89\x44\x89\x44\x89\x55\x4A";
 
 pub const OPEN_MFM: [u8; 8] = *b"\x44\x89\x44\x89\x44\x89\x55\x49";
+
+// The mark bytes that a call may ask for: of a data record, and of a control record.
+pub const DATA_MARK: u32 = 0xFB;
+
+pub const CONTROL_MARK: u32 = 0xF8;
+
+// The string of a mark in FM.
+pub fn fm_string(mark: Mark) -> [u8; 2]
+    ensures { λ r. ⌜ IsString Fm mark r ⌝ }
+{
+    match mark {
+        Mark::Index => INDEX_FM,
+        Mark::Identifier => IDENTIFIER_FM,
+        Mark::Data => DATA_FM,
+        Mark::Control => CONTROL_FM,
+        Mark::Open => OPEN_FM,
+    }
+}
+
+// The same in MFM.
+pub fn mfm_string(mark: Mark) -> [u8; 8]
+    ensures { λ r. ⌜ IsString Mfm mark r ⌝ }
+{
+    match mark {
+        Mark::Index => INDEX_MFM,
+        Mark::Identifier => IDENTIFIER_MFM,
+        Mark::Data => DATA_MFM,
+        Mark::Control => CONTROL_MFM,
+        Mark::Open => OPEN_MFM,
+    }
+}
+
+// The track bytes of a mark, of sixteen cells each.
+pub fn mark_bytes(mode: Mode) -> usize
+    ensures { λ r. ⌜ AreMarkBytes mode r ⌝ }
+{
+    match mode {
+        Mode::Fm => 1,
+        Mode::Mfm => 4,
+    }
+}
+
+// The last image byte of a mark.
+pub fn last_byte(mode: Mode, mark: Mark) -> u8
+    ensures { λ r. ⌜ IsLastByte mode mark r ⌝ }
+{
+    match mode {
+        Mode::Fm => fm_string(mark)[1],
+        Mode::Mfm => mfm_string(mark)[7],
+    }
+}
+
+// The last bit of a mark: the last cell of its string, which is a data cell.
+pub fn last_bit(mark: Mark) -> u8
+    ensures { λ r. ⌜ IsLastBit mark r ⌝ }
+{
+    fm_string(mark)[1] % 2
+}
 
 // Whether the cells from `place` on spell the bytes.
 fn spelled(image: &[u8], place: usize, bytes: &[u8]) -> bool
@@ -88,20 +133,8 @@ pub fn stands(mode: Mode, mark: Mark, image: &[u8], place: usize) -> bool
     ensures { λ r. ⌜ TellsStanding mode mark (now (image .entry)) place r ⌝ }
 {
     match mode {
-        Mode::Fm => match mark {
-            Mark::Index => lying(image, place, &INDEX_FM),
-            Mark::Identifier => lying(image, place, &IDENTIFIER_FM),
-            Mark::Data => lying(image, place, &DATA_FM),
-            Mark::Control => lying(image, place, &CONTROL_FM),
-            Mark::Open => lying(image, place, &OPEN_FM),
-        },
-        Mode::Mfm => match mark {
-            Mark::Index => lying(image, place, &INDEX_MFM),
-            Mark::Identifier => lying(image, place, &IDENTIFIER_MFM),
-            Mark::Data => lying(image, place, &DATA_MFM),
-            Mark::Control => lying(image, place, &CONTROL_MFM),
-            Mark::Open => lying(image, place, &OPEN_MFM),
-        },
+        Mode::Fm => lying(image, place, &fm_string(mark)),
+        Mode::Mfm => lying(image, place, &mfm_string(mark)),
     }
 }
 
@@ -132,42 +165,8 @@ pub fn register_after(mode: Mode, mark: Mark) -> u16
 pub fn mark_of(byte: u8) -> Mark
     ensures { λ r. ⌜ IsMarkOf byte r ⌝ }
 {
-    if byte == 0xF8 {
+    if byte as u32 == CONTROL_MARK {
         return Mark::Control;
     }
     Mark::Data
-}
-
-// The mark of the kinds that the byte `at` begins, if one does. This lays out no table, as a search does.
-pub fn mark_at(mode: Mode, kinds: Kinds, image: &[u8], at: usize) -> Found
-    requires { ⌜ Housed (now image) ⌝ }
-    ensures { λ r. ⌜ IsMarkAt mode kinds (now (image .entry)) at r ⌝ }
-{
-    if image.len() < at {
-        return Found::Nothing;
-    }
-    if image.len() - at < places::width(mode) {
-        return Found::Nothing;
-    }
-    let mark = places::begun(mode, image, at);
-    if places::is_among(kinds, mark) {
-        return Found::At(8 * at, mark);
-    }
-    Found::Nothing
-}
-
-// The first mark of the kinds that begins at a cell from `from` up to and without `to`.
-pub fn find(mode: Mode, kinds: Kinds, image: &[u8], from: usize, to: usize) -> Found
-    requires { ⌜ Housed (now image) ⌝ }
-    ensures { λ r. ⌜ IsFirstMark mode kinds (now (image .entry)) from to r ⌝ }
-{
-    match mode {
-        Mode::Fm => {
-            if kinds.block {
-                return tables::first_fm(kinds, image, from, to);
-            }
-            tables::first_identifier_fm(kinds, image, from, to)
-        }
-        Mode::Mfm => tables::first_mfm(kinds, image, from, to),
-    }
 }

@@ -2,37 +2,52 @@
 use mathlib.Core.Path.{_≡_, refl, sym, ap, _∙_}
 use mathlib.Core.Bool.{Bool, true, false, cond}
 use mathlib.Core.List.{List, [], _∷_}
-use Prim.Native.Nat.{ℕ}
+use Prim.Native.Nat.{ℕ, _*_, _≤_}
 use native.Mathlib.Omega.{arith}
 use lib.ListN.{length, replicate}
-use Rattle.format.specs.Outcomes as formats
+use Rattle.cells.specs.Cells.{cell}
+use Rattle.format.specs.Outcomes.{formattedNumber}
 use Rattle.format.specs.declared.Formatted.the-variants as format
 use Rattle.layouts.specs.Layouts.{layoutOf}
-use Rattle.layouts.specs.Refusals.{Test, refusal}
-use Rattle.layouts.specs.declared.Checked.{Checked}
+use Rattle.layouts.specs.Refusals.{refusalNumber}
+use Rattle.layouts.specs.Tracks.{trackOf}
 use Rattle.layouts.specs.declared.Checked.the-variants.{Passed, Refused}
 use Rattle.layouts.specs.declared.Refusal.{Refusal}
-use Rattle.layouts.proofs.Refusals.{refusal-append-passed}
-use Rattle.read.specs.Answers.{answered, blocks}
-use Rattle.read.specs.Outcomes.{reading, left, readTests, readAnswer, readArea, met, place, locating}
-use Rattle.read.specs.Picks.{recordAt, choice, unlessRefused, pickTests, pickedOf, stretchIn}
-use Rattle.read.specs.declared.Block.{Block}
-use Rattle.read.specs.declared.Block.the-variants.{Missing, Beyond, Within}
+use Rattle.layouts.specs.declared.Track.{Track}
+use Rattle.layouts.proofs.Refusals.{numbers-apart, number-known}
+use Rattle.read.specs.Answers.{Sector, answerNumber, carries, slotOf, refused as refusing, blockAnswer, blockBytes, identifierRecord, recordFor, sectorOf, areaOf}
+use Rattle.read.specs.Outcomes.{reading, refusedReading, readTests, readAnswer, readArea}
+use Rattle.read.specs.Picks.{recordAt, choice, pickTests, chosenOf, stretchIn}
+use Rattle.read.specs.declared.Answer.{Answer}
+use Rattle.read.specs.declared.Answer.the-variants as answers
 use Rattle.read.specs.declared.Choice.the-variants.{First, Second, Neither}
 use Rattle.read.specs.declared.Choice.the-variants as pick
-use Rattle.read.specs.declared.Located.the-variants as locate
+use Rattle.read.specs.declared.Fault.the-variants.{NoIdentifier}
 use Rattle.read.specs.declared.Reading.{Reading}
 use Rattle.read.specs.declared.Record.{Record}
-use Rattle.rewrite.specs.Refusals.{found, cellOf}
-use Rattle.rewrite.specs.Outcomes.{requested, stepped}
+use Rattle.read.proofs.Numbering.{answers-apart}
+use Rattle.read.proofs.Passing.{modest}
+use Rattle.rewrite.specs.Outcomes.{requestedNumber, steppedNumber}
 use Rattle.rewrite.specs.declared.Requested.the-variants as request
 use Rattle.rewrite.specs.declared.Stepped.the-variants as step
-use Rattle.promises.specs.Reading.{NothingOldShows, RefusedLeavesZeros, OfOnePass, PartOfOnePass}
-use Rattle.promises.specs.Refusing.{FirstOf, ExactlyBy, FormatRefuses, ReadRefuses, LocateRefuses, PickRefuses, RequestRefuses, StepRefuses}
+use Rattle.verdicts.specs.Tests.{Test, Verdict, passed, refused, refusal, by}
+use Rattle.verdicts.proofs.Tests.{clash, exactly, by-passed, by-refused, by-map}
+use Rattle.walk.specs.Events.{blocks, located}
+use Rattle.walk.specs.Outcomes.{met, locatedNumber}
+use Rattle.walk.specs.declared.Block.{Block}
+use Rattle.walk.specs.declared.Block.the-variants.{Missing, Beyond, Within}
+use Rattle.walk.specs.declared.Event.{Event}
+use Rattle.walk.specs.declared.Located.the-variants as locate
+use lib.Dec.{leb}
+use Rattle.promises.specs.Reading.{NothingOldShows, RefusedLeavesZeros, RefusedSlotsAreZero, RefusedSectorsLeaveZeros, OfOnePass, PartOfOnePass}
+use Rattle.promises.specs.Refusing.{NumbersApart, RefusedBy, checkedNumber, FormatRefuses, ReadRefuses, LocateRefuses, PickRefuses, RequestRefuses, StepRefuses}
+use Rattle.promises.specs.Sectors.{sectorIn}
+use Rattle.promises.proofs.formatting.Calls.{record-read, slot-read}
 
--- Two answers of different kinds are not the same.
-clash : _≡_ {A = ℕ} 0 1 → ⊥
-clash e = absurd (omega arith)
+pub numbers-are-apart : NumbersApart
+numbers-are-apart = (numbers-apart, answers-apart)
+
+-- ---- the reader
 
 pub nothing-old-shows : NothingOldShows
 nothing-old-shows layout cylinder side image before before′ answer answer′ after after′ e p q = (
@@ -41,20 +56,62 @@ nothing-old-shows layout cylinder side image before before′ answer answer′ a
 )
 
 pub refused-leaves-zeros : RefusedLeavesZeros
-unfolding readAnswer readArea
+unfolding readAnswer readArea by
 refused-leaves-zeros layout cylinder side image given answer after f p e =
-    p .leaves ∙ by (refusal (readTests layout cylinder side (length image) given)) _ _ _ _ _ (sym (ap (λ (r : Reading). r .verdict) (p .answers)) ∙ e)
+    let v = refusal (readTests layout cylinder side (length image) given) in
+    let told : v ≡ refused f = by-refused Passed Refused (λ f e. clash cc) (λ g f e. cc) v (answer .verdict) f
+    (ap (λ (r : Reading). r .verdict) (p .answers)
+    ∙ by-map (λ (r : Reading). r .verdict) v (reading (trackOf layout cylinder side) image) refusedReading) e in
+    p .leaves ∙ rw told
+
+-- An answer from 21 on carries no bytes.
+zero-slot : (size : ℕ) (a : Answer) (bytes : List ℕ) → 21 ≤ answerNumber a → slotOf size a bytes ≡ replicate size 0
+zero-slot size (answers.Refused f) bytes h = refl
+zero-slot size answers.Data bytes h = absurd (omega arith)
+zero-slot size answers.Control bytes h = absurd (omega arith)
+
+pub refused-slots-are-zero : RefusedSlotsAreZero
+unfolding sectorOf recordFor identifierRecord
+refused-slots-are-zero t image s h = go (leb s (t .layout .sectors)) (blocks s (met t image)) h
   where
-    by : (x : Checked) (sectors : ℕ) (records : List Record) (bad foreign : ℕ) (area : List ℕ) → reading x sectors records bad foreign .verdict ≡ Refused f
-        → left x given area ≡ replicate given 0
-    by Passed sectors records bad foreign area h = absurd (clash cc)
-    by (Refused g) sectors records bad foreign area h = refl
+    c : ℕ → ℕ
+    c = cell image
+
+    n : ℕ
+    n = 8 * length image
+
+    go : (b : Bool) (bs : List Block) → 21 ≤ answerNumber (cond b (recordFor t c n bs) (refusing (t .layout .size) NoIdentifier) .known .answer)
+        → cond b (recordFor t c n bs) (refusing (t .layout .size) NoIdentifier) .slot ≡ replicate (t .layout .size) 0
+    go false bs h = refl
+    go true [] h = refl
+    go true (Missing ∷ []) h = refl
+    go true (Beyond m ∷ []) h = refl
+    go true (Within m ∷ []) h = zero-slot (t .layout .size) (blockAnswer t c n m) (blockBytes t c n m) h
+    go true (x ∷ y ∷ bs) h = refl
+
+-- Where the tests pass, it is this.
+pub taken : {A : Type 0} (v : Verdict Refusal) → v ≡ passed → (this : A) (that : Refusal → A) → by v this that ≡ this
+unfolding by
+taken v e this that = rw e
+
+pub refused-sectors-leave-zeros : RefusedSectorsLeaveZeros
+unfolding readAnswer readArea
+refused-sectors-leave-zeros layout cylinder side image given answer after s p passes number high =
+    let t = trackOf layout cylinder side in
+    let v = refusal (readTests layout cylinder side (length image) given) in
+    let accepted : v ≡ passed = by-passed Passed Refused (λ f e. clash cc) (λ g f e. cc) v (answer .verdict)
+    (ap (λ (r : Reading). r .verdict) (p .answers) ∙ by-map (λ (r : Reading). r .verdict) v (reading t image) refusedReading) passes in
+    let told : answer ≡ reading t image = p .answers ∙ taken v accepted (reading t image) refusedReading in
+    let left : after ≡ areaOf t (cell image) (8 * length image) (met t image) = p .leaves ∙ taken v accepted _ (λ f. replicate given 0) in
+    let same = ap (λ (r : Reading). answerNumber (recordAt (r .records) s .answer)) told
+    ∙ ap (λ (r : Record). answerNumber (r .answer)) (record-read t image s (number .0) (number .1) (modest layout .1)) in
+    slot-read t image s (number .0) (number .1) after left ∙ refused-slots-are-zero t image s (omega (arith, same))
 
 -- What is picked is one of the four, and no other.
 pub part-of-one-pass : PartOfOnePass
-unfolding pickedOf
+unfolding chosenOf by
 part-of-one-pass layout sector first one second two answer part p q =
-    by (refusal (pickTests layout sector (length first) (length second))) (answered (a .answer)) (answered (b .answer)) refl refl p q
+    go (refusal (pickTests layout sector (length first) (length second))) (carries (a .answer)) (carries (b .answer)) refl refl p q
   where
     a : Record
     a = recordAt one sector
@@ -62,109 +119,71 @@ part-of-one-pass layout sector first one second two answer part p q =
     b : Record
     b = recordAt two sector
 
-    by : (x : Checked) (m n : Bool) → answered (a .answer) ≡ m → answered (b .answer) ≡ n
-        → answer ≡ unlessRefused x (cond m (First a) (cond n (Second b) (Neither a)))
-        → part ≡ stretchIn (layoutOf layout) sector first second (unlessRefused x (cond m (First a) (cond n (Second b) (Neither a))))
+    go : (x : Verdict Refusal) (m n : Bool) → carries (a .answer) ≡ m → carries (b .answer) ≡ n
+        → answer ≡ by x (cond m (First a) (cond n (Second b) (Neither a))) pick.Refused
+        → part ≡ stretchIn (layoutOf layout) sector first second (by x (cond m (First a) (cond n (Second b) (Neither a))) pick.Refused)
         → OfOnePass (layoutOf layout) sector first second a b answer part
-    by Passed true n h k e u =
+    go passed true n h k e u =
         record { ofFirst = λ r c. (cc, h, u); ofSecond = λ r c. absurd (clash cc); ofNeither = λ r c. absurd (clash cc); ofRefused = λ f c. absurd (clash cc) }
-    by Passed false true h k e u =
+    go passed false true h k e u =
         record { ofFirst = λ r c. absurd (clash cc); ofSecond = λ r c. (cc, h, k, u); ofNeither = λ r c. absurd (clash cc); ofRefused = λ f c. absurd (clash cc) }
-    by Passed false false h k e u =
+    go passed false false h k e u =
         record { ofFirst = λ r c. absurd (clash cc); ofSecond = λ r c. absurd (clash cc); ofNeither = λ r c. (cc, h, k, u); ofRefused = λ f c. absurd (clash cc) }
-    by (Refused g) m n h k e u =
+    go (refused g) m n h k e u =
         record { ofFirst = λ r c. absurd (clash cc); ofSecond = λ r c. absurd (clash cc); ofNeither = λ r c. absurd (clash cc); ofRefused = λ f c. u }
 
--- What one test before others says.
-refused-first : (t : Test) (ts : List Test) (f : Refusal) → (refusal ts ≡ Refused f → FirstOf ts f) → refusal (t ∷ ts) ≡ Refused f → FirstOf (t ∷ ts) f
-unfolding refusal
-refused-first t ts f rest e = by (t .applies) refl e
-  where
-    by : (b : Bool) → t .applies ≡ b → cond b (Refused (t .gives)) (refusal ts) ≡ Refused f → FirstOf (t ∷ ts) f
-    by true h e = record { before = []; test = t; after = ts; parts = refl; none = refl; applies = h; gives = cc }
-    by false h e =
-        let r = rest e in
-        record {
-          before = t ∷ r .before;
-          test = r .test;
-          after = r .after;
-          parts = ap (λ x. t ∷ x) (r .parts);
-          none = rw h (r .none);
-          applies = r .applies;
-          gives = r .gives;
-        }
+-- ---- the tests of a call
 
-first-of : (tests : List Test) (f : Refusal) → refusal tests ≡ Refused f → FirstOf tests f
-unfolding refusal
-first-of [] f e = absurd (clash cc)
-first-of (t ∷ ts) f e = refused-first t ts f (first-of ts f) e
-
-first-refused : (tests : List Test) (f : Refusal) → FirstOf tests f → refusal tests ≡ Refused f
-unfolding refusal
-first-refused tests f r =
-    ap refusal (r .parts) ∙ refusal-append-passed (r .before) (r .test ∷ r .after) (r .none) ∙ rw (r .applies, r .gives)
-
--- An answer that says what its tests say is refused exactly by them, whatever else it can say.
-module _ {A : Type 0} (says : Checked → A) (refused : Refusal → A) (same : (f : Refusal) → says (Refused f) ≡ refused f)
-    (other : (f : Refusal) → says Passed ≡ refused f → ⊥) (apart : (g f : Refusal) → refused g ≡ refused f → g ≡ f) where
-  told : (x : Checked) (f : Refusal) → says x ≡ refused f → x ≡ Refused f
-  told Passed f e = absurd (other f e)
-  told (Refused g) f e = ap Refused (apart g f (sym (same g) ∙ e))
-
-  pub exactly : (tests : List Test) (answer : A) → answer ≡ says (refusal tests) → ExactlyBy tests (λ f. answer ≡ refused f)
-  exactly tests answer e f = (
-    λ r. first-of tests f (told (refusal tests) f (sym e ∙ r)),
-    λ r. e ∙ ap says (first-refused tests f r) ∙ same f,
-  )
+-- A number by the verdict, 0 where the tests pass, is refused by them.
+pub by-tests : (tests : List (Test Refusal)) (number : ℕ) → number ≡ by (refusal tests) 0 refusalNumber → RefusedBy tests number
+by-tests tests number e = exactly 0 refusalNumber (λ f z. let k = number-known f in absurd (omega arith)) numbers-apart tests number e
 
 pub format-refuses : FormatRefuses
 format-refuses layout cylinder side contents marks before answer after p =
-    exactly formats.answered format.Refused (λ f. refl) (λ f e. clash cc) (λ g f e. cc) _ _ (p .answers)
+    by-tests _ (formattedNumber answer) (ap formattedNumber (p .answers) ∙ by-map formattedNumber _ format.Written format.Refused)
 
 pub read-refuses : ReadRefuses
 unfolding readAnswer
 read-refuses layout cylinder side image given answer after p =
-    exactly (λ x. x) Refused (λ f. refl) (λ f e. clash cc) (λ g f e. cc) _ _
-    (ap (λ (r : Reading). r .verdict) (p .answers) ∙ verdict _ _ _ _ _)
-  where
-    verdict : (x : Checked) (sectors : ℕ) (records : List Record) (bad foreign : ℕ) → reading x sectors records bad foreign .verdict ≡ x
-    verdict Passed sectors records bad foreign = refl
-    verdict (Refused f) sectors records bad foreign = refl
+    by-tests _ (checkedNumber (answer .verdict))
+    (ap (λ (r : Reading). checkedNumber (r .verdict)) (p .answers)
+    ∙ by-map (λ (r : Reading). checkedNumber (r .verdict)) _ (reading (trackOf layout cylinder side) image) refusedReading)
 
 pub locate-refuses : LocateRefuses
-unfolding place
+unfolding located
 locate-refuses layout cylinder side sector image answer p =
-    exactly (λ x. locating x (place bs)) locate.Refused (λ f. refl) (λ f e. unrefused bs f e) (λ g f e. cc) _ _ p
+    exactly (locatedNumber (located bs)) refusalNumber (λ f e. unrefused bs f e) numbers-apart _ (locatedNumber answer)
+    (ap locatedNumber p ∙ by-map locatedNumber _ (located bs) locate.Refused)
   where
     bs : List Block
-    bs = blocks sector (met layout cylinder side image)
+    bs = blocks sector (met (trackOf layout cylinder side) image)
 
-    unrefused : (bs : List Block) (f : Refusal) → place bs ≡ locate.Refused f → ⊥
-    unrefused [] f e = clash cc
-    unrefused (Missing ∷ []) f e = clash cc
-    unrefused (Beyond m ∷ []) f e = clash cc
-    unrefused (Within m ∷ []) f e = clash cc
-    unrefused (b ∷ x ∷ bs) f e = clash cc
+    unrefused : (bs : List Block) (f : Refusal) → locatedNumber (located bs) ≡ refusalNumber f → ⊥
+    unrefused [] f e = let k = number-known f in absurd (omega arith)
+    unrefused (Missing ∷ []) f e = let k = number-known f in absurd (omega arith)
+    unrefused (Beyond m ∷ []) f e = let k = number-known f in absurd (omega arith)
+    unrefused (Within m ∷ []) f e = let k = number-known f in absurd (omega arith)
+    unrefused (b ∷ x ∷ bs) f e = let k = number-known f in absurd (omega arith)
 
 -- Of two passes: what is picked where nothing is refused is no refusal.
-pub pick-refuses : PickRefuses
-unfolding pickedOf
-pick-refuses layout sector first one second two answer p =
-    exactly (λ x. unlessRefused x (choice (recordAt one sector) (recordAt two sector))) pick.Refused (λ f. refl)
-    (λ f e. unrefused (recordAt one sector) (recordAt two sector) f e) (λ g f e. cc) _ _ p
+pub choice-unrefused : (a b : Record) (f : Refusal) → choice a b ≡ pick.Refused f → ⊥
+choice-unrefused a b f e = go (carries (a .answer)) (carries (b .answer)) e
   where
-    unrefused : (a b : Record) (f : Refusal) → choice a b ≡ pick.Refused f → ⊥
-    unrefused a b f e = by (answered (a .answer)) (answered (b .answer)) e
-      where
-        by : (x y : Bool) → cond x (First a) (cond y (Second b) (Neither a)) ≡ pick.Refused f → ⊥
-        by true y e = clash cc
-        by false true e = clash cc
-        by false false e = clash cc
+    go : (x y : Bool) → cond x (First a) (cond y (Second b) (Neither a)) ≡ pick.Refused f → ⊥
+    go true y e = clash cc
+    go false true e = clash cc
+    go false false e = clash cc
+
+pub pick-refuses : PickRefuses
+unfolding chosenOf
+pick-refuses layout sector first one second two answer p =
+    exactly (choice (recordAt one sector) (recordAt two sector)) pick.Refused (choice-unrefused (recordAt one sector) (recordAt two sector))
+    (λ g f e. cc) _ _ p
 
 pub request-refuses : RequestRefuses
 request-refuses layout cylinder side sector mark contents image answer p =
-    exactly (λ x. requested x layout (cellOf (found layout cylinder side sector image))) request.Refused (λ f. refl) (λ f e. clash cc) (λ g f e. cc) _ _ p
+    by-tests _ (requestedNumber answer) (ap requestedNumber p ∙ by-map requestedNumber _ (request.Planned _) request.Refused)
 
 pub step-refuses : StepRefuses
 step-refuses plan mark contents before answer after p =
-    exactly (λ x. stepped x plan) step.Refused (λ f. refl) (λ f e. clash cc) (λ g f e. cc) _ _ (p .answers)
+    by-tests _ (steppedNumber answer) (ap steppedNumber (p .answers) ∙ by-map steppedNumber _ (step.Made _) step.Refused)

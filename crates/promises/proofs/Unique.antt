@@ -2,19 +2,25 @@
 use mathlib.Core.List.{List}
 use mathlib.Core.Path.{_≡_, sym, ap₂, _∙_}
 use Prim.Native.Nat.{ℕ}
-use Rattle.cells.specs.Outcomes.{IsOctet, IsDataByte, AreDataBytes, IsCoded}
+use Rattle.cells.specs.Outcomes.{IsOctet, IsDataByte, AreDataBytes, AreZeros, IsCoded}
 use Rattle.cells.specs.declared.Mode.{Mode}
 use Rattle.edc.specs.Outcomes.{IsByteEntered, IsBytesEntered, IsEdc}
 use Rattle.format.specs.Outcomes.{Formats, IsFormattedNumber}
 use Rattle.format.specs.declared.Formatted.{Formatted}
-use Rattle.layouts.specs.Outcomes.{IsLayout, IsGapByte, IsRefusalNumber, IsNumbered, IsOnTrack, IsForReading, IsImageLength, IsAreaLength, IsMarkByte, IsControlRecord, IsSectorNumber}
+use Rattle.layouts.specs.Outcomes.{IsLayout, IsLayoutOf, IsTrack, IsGapByte, IsRefusalNumber}
+use Rattle.layouts.specs.Outcomes.{IsLayoutNumber, IsTrackNumbers, IsTrackAndImage, IsImageLength, IsAreaLength, IsMarkByte}
+use Rattle.layouts.specs.Outcomes.{IsControlRecord, IsSectorNumber}
 use Rattle.layouts.specs.declared.Layout.{Layout}
 use Rattle.layouts.specs.declared.Refusal.{Refusal}
-use Rattle.marks.specs.Outcomes.{TellsStanding, IsRegisterAfter, IsMarkOf, IsMarkAt, IsFirstMark}
+use Rattle.marks.specs.Outcomes.{IsString, AreMarkBytes, IsLastByte, IsLastBit, TellsStanding, IsRegisterAfter, IsMarkOf}
 use Rattle.marks.specs.declared.Mark.{Mark}
-use Rattle.marks.specs.declared.Kinds.{Kinds}
-use Rattle.read.specs.Outcomes.{IsFaultNumber, IsAnswerNumber, Reads, Locates}
-use Rattle.read.specs.Picks.{IsPicked, IsStretch}
+use Rattle.search.specs.declared.Kinds.{Kinds}
+use Rattle.read.specs.Outcomes.{IsFaultNumber, IsAnswerNumber, IsAnswerOf, Reads}
+use Rattle.search.specs.Outcomes.{TellsBlock, IsMarkAt, IsFirstMark}
+use Rattle.walk.specs.Outcomes.{IsRound, Locates}
+use Rattle.layouts.specs.declared.Track.{Track}
+use Rattle.read.specs.Picks.{IsChosen, IsPicked, IsStretch}
+use Rattle.read.specs.declared.Record.{Record}
 use Rattle.read.specs.declared.Fault.{Fault}
 use Rattle.read.specs.declared.Answer.{Answer}
 use Rattle.read.specs.declared.Records.{Records}
@@ -40,6 +46,9 @@ data-byte image place = by-value _
 pub data-bytes : (image : List ℕ) (place room : ℕ) → Unique (AreDataBytes image place room)
 data-bytes image place room = by-value _
 
+pub clear : (room : ℕ) → Unique (AreZeros room)
+clear room = by-value _
+
 pub coded : (mode : Mode) (before byte : ℕ) → Unique (IsCoded mode before byte)
 coded mode before byte = by-value _
 
@@ -56,6 +65,19 @@ edc bytes = by-value _
 
 -- ---- marks
 
+-- fm_string and mfm_string
+pub string : (mode : Mode) (mark : Mark) → Unique (IsString mode mark)
+string mode mark = by-value _
+
+pub mark-bytes : (mode : Mode) → Unique (AreMarkBytes mode)
+mark-bytes mode x y p q = p .0 ∙ sym (q .0)
+
+pub last-byte : (mode : Mode) (mark : Mark) → Unique (IsLastByte mode mark)
+last-byte mode mark = by-value _
+
+pub last-bit : (mark : Mark) → Unique (IsLastBit mark)
+last-bit mark = by-value _
+
 pub stands : (mode : Mode) (mark : Mark) (image : List ℕ) (place : ℕ) → Unique (TellsStanding mode mark image place)
 stands mode mark image place = by-value _
 
@@ -64,6 +86,11 @@ register-after mode mark = by-value _
 
 pub mark-of : (byte : ℕ) → Unique (IsMarkOf byte)
 mark-of byte = by-value _
+
+-- ---- search
+
+pub is-block : (mark : Mark) → Unique (TellsBlock mark)
+is-block mark = by-value _
 
 pub mark-at : (mode : Mode) (kinds : Kinds) (image : List ℕ) (place : ℕ) → Unique (IsMarkAt mode kinds image place)
 mark-at mode kinds image place = by-value _
@@ -83,14 +110,20 @@ gap-byte mode = by-value _
 pub refusal-number : (refusal : Refusal) → Unique (IsRefusalNumber refusal)
 refusal-number refusal = by-value _
 
-pub numbered : (layout : ℕ) → Unique (IsNumbered layout)
-numbered layout = by-value _
+pub layout-of : (layout : ℕ) → Unique (IsLayoutOf layout)
+layout-of layout = by-value _
 
-pub on-track : (layout cylinder side : ℕ) → Unique (IsOnTrack layout cylinder side)
-on-track layout cylinder side = by-value _
+pub track-of : (layout cylinder side : ℕ) → Unique (IsTrack layout cylinder side)
+track-of layout cylinder side = by-value _
 
-pub for-reading : (layout cylinder side length : ℕ) → Unique (IsForReading layout cylinder side length)
-for-reading layout cylinder side length = by-value _
+pub layout-number : (layout : ℕ) → Unique (IsLayoutNumber layout)
+layout-number layout = by-value _
+
+pub track-numbers : (layout cylinder side : ℕ) → Unique (IsTrackNumbers layout cylinder side)
+track-numbers layout cylinder side = by-value _
+
+pub track-and-image : (layout cylinder side length : ℕ) → Unique (IsTrackAndImage layout cylinder side length)
+track-and-image layout cylinder side length = by-value _
 
 pub image-length : (length : ℕ) → Unique (IsImageLength length)
 image-length length = by-value _
@@ -120,6 +153,14 @@ format layout cylinder side contents marks before x y p q = by-values _ _ x y (p
 pub formatted-number : (answer : Formatted) → Unique (IsFormattedNumber answer)
 formatted-number answer = by-value _
 
+-- ---- walk
+
+pub next-round : (t : Track) (image : List ℕ) (place : ℕ) → Unique (IsRound t image place)
+next-round t image place = by-value _
+
+pub locate : (layout cylinder side sector : ℕ) (image : List ℕ) → Unique (Locates layout cylinder side sector image)
+locate layout cylinder side sector image = by-value _
+
 -- ---- read
 
 pub fault-number : (fault : Fault) → Unique (IsFaultNumber fault)
@@ -128,12 +169,15 @@ fault-number fault = by-value _
 pub answer-number : (answer : Answer) → Unique (IsAnswerNumber answer)
 answer-number answer = by-value _
 
+pub answer-of : (number : ℕ) → Unique (IsAnswerOf number)
+answer-of number = by-value _
+
 pub read : (layout cylinder side : ℕ) (image : List ℕ) (given : ℕ)
     → Unique (λ (o : Reading × List ℕ). Reads layout cylinder side image given (o .0) (o .1))
 read layout cylinder side image given x y p q = by-values _ _ x y (p .answers, p .leaves) (q .answers, q .leaves)
 
-pub locate : (layout cylinder side sector : ℕ) (image : List ℕ) → Unique (Locates layout cylinder side sector image)
-locate layout cylinder side sector image = by-value _
+pub choose : (layout sector first second : ℕ) (one two : Record) → Unique (IsChosen layout sector first second one two)
+choose layout sector first second one two = by-value _
 
 pub picked : (layout sector : ℕ) (first : List ℕ) (one : Records) (second : List ℕ) (two : Records) → Unique (IsPicked layout sector first one second two)
 picked layout sector first one second two = by-value _

@@ -37,7 +37,8 @@ place mode m (mark k ∷ ss) = cond (eqb (markByte k) (markByte m)) 0 (length (s
 
 -- A track of a layout with FB and zeros in every sector.
 abbrev symbols : Layout → ℕ → List Symbol
-symbols l cylinder = track l cylinder 0 (replicate (l .«area_bytes») 0) (replicate (l .sectors) 0xFB) (numbers (l .sectors) 1)
+symbols l cylinder =
+    track (record { layout = l; cylinder = cylinder; side = 0 }) (replicate (l .«area_bytes») 0) (replicate (l .sectors) 0xFB) (numbers (l .sectors) 1)
 
 -- The first identifier mark and the first data mark of it: where they begin, and what stands there in the image.
 abbrev places : Layout → ℕ → List ℕ

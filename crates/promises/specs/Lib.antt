@@ -1,7 +1,15 @@
-pub mod Facts
-pub mod Unique
-pub mod RoundTrip
-pub mod Reading
+-- The words of demands 2 and 3: how one sector reads.
+pub mod Sectors
+-- Demand 1: refusals and their numbers; the reader; the pick.
 pub mod Refusing
+pub mod Reading
+-- Demand 2: the round trip.
+pub mod RoundTrip
+-- Demand 3: a rewrite that may be cut.
 pub mod Cuts
 pub mod Rewriting
+-- All three, of the exported functions.
+pub mod Doors
+-- The facts that 01 marks P, and what a contract settles.
+pub mod Facts
+pub mod Unique

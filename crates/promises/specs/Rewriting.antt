@@ -1,27 +1,28 @@
 -- Demand 3: a rewrite is a fixed list of single-byte stores, and it may be cut after any of them. Said here of a request that is accepted: what
 -- its steps do one after the other, how the image reads wherever they are cut, and that starting again ends as if nothing had been cut.
-use mathlib.Core.List.{List, [], _∷_}
+use mathlib.Core.List.{List}
 use mathlib.Core.Path.{_≡_}
 use Prim.Native.Nat.{ℕ, suc, _-_, _*_, _<_, _≤_}
-use lib.ListN.{length, getD, set, replicate}
+use lib.ListN.{length, getD, set}
 use lib.Seq.{sets}
-use Rattle.cells.specs.Cells.{cell}
+use Rattle.cells.specs.Cells.{Bytes}
+use Rattle.format.specs.Order.{Numbered}
+use Rattle.format.specs.Outcomes.{Formats}
+use Rattle.format.specs.declared.Formatted.the-variants.{Written}
 use Rattle.layouts.specs.Layouts.{layoutOf}
-use Rattle.layouts.specs.Refusals.{refusal, areaTest, markTest, controlTest}
-use Rattle.layouts.specs.declared.Checked.the-variants.{Passed}
-use Rattle.layouts.specs.declared.Refusal.the-variants.{Finished}
+use Rattle.layouts.specs.Tracks.{trackOf}
 use Rattle.marks.specs.Marks.{markOf}
-use Rattle.read.specs.Answers.{bads, foreigns, blocks, slot, recordOf}
-use Rattle.read.specs.Outcomes.{met, Reads}
-use Rattle.read.specs.declared.Answer.{Answer}
-use Rattle.read.specs.declared.Answer.the-variants as answers
-use Rattle.read.specs.declared.Fault.the-variants.{OpenMark}
+use Rattle.read.specs.Outcomes.{Reads}
 use Rattle.read.specs.declared.Reading.{Reading}
 use Rattle.read.specs.declared.Record.{Record}
-use Rattle.rewrite.specs.Stores.{none, stores, storeCount}
-use Rattle.rewrite.specs.Outcomes.{Steps, Requests}
-use Rattle.promises.specs.RoundTrip.{markAnswer}
+use Rattle.rewrite.specs.Refusals.{contentsTests}
+use Rattle.rewrite.specs.Stores.{noStore, stores, storeCount}
+use Rattle.rewrite.specs.Outcomes.{Steps, Requests, steppedNumber}
+use Rattle.verdicts.specs.Tests.{passed, refusal}
+use Rattle.walk.specs.Events.{bads, foreigns}
+use Rattle.walk.specs.Outcomes.{met}
 use Rattle.promises.specs.Cuts.{cut}
+use Rattle.promises.specs.Sectors.{sectorIn, underWay, readsBack, ReadsSo}
 use Rattle.rewrite.specs.declared.Plan.{Plan}
 use Rattle.rewrite.specs.declared.Requested.the-variants as request
 use Rattle.rewrite.specs.declared.Stepped.{Stepped}
@@ -29,10 +30,6 @@ use Rattle.rewrite.specs.declared.Stepped.the-variants as step
 use Rattle.rewrite.specs.declared.Store.{Store}
 
 -- ---- the words
-
--- The list holds bytes.
-abbrev pub Bytes : List ℕ → Type 0
-Bytes xs = (i : ℕ) → getD xs i 0 < 256
 
 -- The plan in hand after a step: the one that it handed back; a refused step leaves the plan as it was.
 abbrev pub inHand : Plan → Stepped → Plan
@@ -46,29 +43,9 @@ pub data Ran (mark : ℕ) (contents : List ℕ) (plan : Plan) (image : List ℕ)
   went : (j : ℕ) (held : Plan) (now : List ℕ) (answer : Stepped) (after : List ℕ) → Ran mark contents plan image j held now
       → Steps held mark contents now answer after → Ran mark contents plan image (suc j) (inHand held answer) after
 
--- How a sector of an image reads: its record, and what it leaves in its slot.
-module _ (layout cylinder side : ℕ) (image : List ℕ) (x : ℕ) where
-  abbrev pub recordIn : Record
-  recordIn = recordOf (layoutOf layout) (cell image) (8 * length image) (met layout cylinder side image) x
-
-  abbrev pub slotIn : List ℕ
-  slotIn = slot (layoutOf layout) (cell image) (8 * length image) (blocks x (met layout cylinder side image))
-
--- The sector reads with this answer, and leaves these bytes in its slot.
-abbrev pub ReadsWith : (layout cylinder side : ℕ) → List ℕ → ℕ → Answer → List ℕ → Type 0
-ReadsWith layout cylinder side image x answer bytes =
-    (recordIn layout cylinder side image x ≡ record { answer = answer }) × (slotIn layout cylinder side image x ≡ bytes)
-
--- The sector reads in one image as in another.
-abbrev pub ReadsAlike : (layout cylinder side : ℕ) → (now before : List ℕ) → ℕ → Type 0
-ReadsAlike layout cylinder side now before x =
-    (recordIn layout cylinder side now x ≡ recordIn layout cylinder side before x)
-    × (slotIn layout cylinder side now x ≡ slotIn layout cylinder side before x)
-
 -- A mark and contents that pass 5, 6 and 7.
 abbrev pub Fit : (layout cylinder mark : ℕ) → List ℕ → Type 0
-Fit layout cylinder mark contents =
-    refusal (areaTest (layoutOf layout .size) (length contents) ∷ markTest mark ∷ controlTest cylinder mark (getD contents 0 0) ∷ []) ≡ Passed
+Fit layout cylinder mark contents = refusal (contentsTests (layoutOf layout) cylinder mark contents) ≡ passed
 
 -- ---- the steps
 
@@ -103,11 +80,11 @@ module _ (layout mark : ℕ) (contents image : List ℕ) (plan : Plan) where
     -- It changes at most the byte that it stores.
     pub changes : (j : ℕ) (held : Plan) (now : List ℕ) (answer : Stepped) (next : List ℕ) → j < number layout image plan
         → Ran mark contents plan image j held now → Steps held mark contents now answer next
-        → (length next ≡ length now) × ((i : ℕ) → (i ≡ getD list j none .place → ⊥) → getD next i 0 ≡ getD now i 0)
+        → (length next ≡ length now) × ((i : ℕ) → (i ≡ getD list j noStore .byte → ⊥) → getD next i 0 ≡ getD now i 0)
     -- The step after the last is refused 12, and changes nothing.
     pub refuses : (held : Plan) (now : List ℕ) (answer : Stepped) (next : List ℕ)
         → Ran mark contents plan image (number layout image plan) held now → Steps held mark contents now answer next
-        → (answer ≡ step.Refused Finished) × (next ≡ now)
+        → (steppedNumber answer ≡ 12) × (next ≡ now)
 
 -- ---- a cut
 
@@ -125,28 +102,31 @@ withRecord reading sector x =
 -- A rewrite was cut after j stores, and left the image `now`.
 pub record Survives (layout cylinder side sector mark : ℕ) (contents image : List ℕ) (plan : Plan) (j : ℕ) (now : List ℕ) : Type 0 where
   -- Every other sector reads as before, and both counts are as before.
-  pub others : (x : ℕ) → (x ≡ sector → ⊥) → ReadsAlike layout cylinder side now image x
-  pub bad : bads (met layout cylinder side now) ≡ bads (met layout cylinder side image)
-  pub foreign : foreigns (met layout cylinder side now) ≡ foreigns (met layout cylinder side image)
+  pub others : (x : ℕ) → (x ≡ sector → ⊥) → sectorIn (trackOf layout cylinder side) now x ≡ sectorIn (trackOf layout cylinder side) image x
+  pub bad : bads (met (trackOf layout cylinder side) now) ≡ bads (met (trackOf layout cylinder side) image)
+  pub foreign : foreigns (met (trackOf layout cylinder side) now) ≡ foreigns (met (trackOf layout cylinder side) image)
   -- The sector itself reads as before if no store was made; it is refused as open if some were made but not all; after the last it is the new
   -- one.
-  pub unbegun : j ≡ 0 → ReadsAlike layout cylinder side now image sector
-  pub opened : 0 < j → j < number layout image plan
-      → ReadsWith layout cylinder side now sector (answers.Refused OpenMark) (replicate (layoutOf layout .size) 0)
-  pub written : j ≡ number layout image plan → ReadsWith layout cylinder side now sector (markAnswer mark) contents
+  pub unbegun : j ≡ 0 → sectorIn (trackOf layout cylinder side) now sector ≡ sectorIn (trackOf layout cylinder side) image sector
+  pub opened : 0 < j → j < number layout image plan → ReadsSo (sectorIn (trackOf layout cylinder side) now sector) (underWay (layoutOf layout .size))
+  pub written : j ≡ number layout image plan
+      → ReadsSo (sectorIn (trackOf layout cylinder side) now sector) (readsBack cylinder mark contents)
   -- In the words of `read`: it answers what it answers of the first image, but for this one record, and leaves the same, but for this one slot.
-  pub reads : (before answer : Reading) (area left : List ℕ)
+  pub reads : (before answer : Reading) (area after : List ℕ)
       → Reads layout cylinder side image (layoutOf layout .«area_bytes») before area
-      → Reads layout cylinder side now (layoutOf layout .«area_bytes») answer left
-      → (answer ≡ withRecord before sector (recordIn layout cylinder side now sector))
-      × (left ≡ sets area ((sector - 1) * layoutOf layout .size) (slotIn layout cylinder side now sector))
+      → Reads layout cylinder side now (layoutOf layout .«area_bytes») answer after
+      → (answer ≡ withRecord before sector (sectorIn (trackOf layout cylinder side) now sector .known))
+      × (after ≡ sets area ((sector - 1) * layoutOf layout .size) (sectorIn (trackOf layout cylinder side) now sector .slot))
 
--- Starting again on the image `now` that a cut left of `image`, with a mark and contents that pass 5, 6 and 7. The request is accepted, with the
--- plan that it gets on the first image too, and all its steps end at the image that they, uncut, make of the first image.
+-- Starting again on the image `now` that a cut left of `image`: a new request for the sector, with a mark and contents of its own. It is accepted
+-- exactly if they pass 5, 6 and 7, then with the plan that it gets on the first image too; and all the steps of an accepted one end at the image
+-- that they, uncut, make of the first image.
 pub record StartsAgain (layout cylinder side sector : ℕ) (plan : Plan) (image now : List ℕ) (mark : ℕ) (contents : List ℕ) : Type 0 where
-  pub accepted : Requests layout cylinder side sector mark contents now (request.Planned plan)
-  pub uncut : Requests layout cylinder side sector mark contents image (request.Planned plan)
-  pub ends : (held other : Plan) (end whole : List ℕ) → Ran mark contents plan now (number layout now plan) held end
+  pub accepted : Fit layout cylinder mark contents → Requests layout cylinder side sector mark contents now (request.Planned plan)
+  pub only : (new : Plan) → Requests layout cylinder side sector mark contents now (request.Planned new)
+      → Fit layout cylinder mark contents × (new ≡ plan) × Requests layout cylinder side sector mark contents image (request.Planned plan)
+  pub ends : (new held other : Plan) (end whole : List ℕ) → Requests layout cylinder side sector mark contents now (request.Planned new)
+      → Ran mark contents new now (number layout now new) held end
       → Ran mark contents plan image (number layout image plan) other whole → end ≡ whole
 
 -- ---- demand 3
@@ -163,8 +143,24 @@ pub record Demand3 : Type 0 where
   pub again : (layout cylinder side sector mark : ℕ) (contents image : List ℕ) (plan : Plan)
       → Requests layout cylinder side sector mark contents image (request.Planned plan)
       → (j : ℕ) (held : Plan) (now : List ℕ) → j ≤ number layout image plan → Ran mark contents plan image j held now
-      → (newMark : ℕ) (newContents : List ℕ) → Fit layout cylinder newMark newContents
-      → StartsAgain layout cylinder side sector plan image now newMark newContents
+      → (newMark : ℕ) (newContents : List ℕ) → StartsAgain layout cylinder side sector plan image now newMark newContents
+
+-- ---- not empty
+
+-- A request is accepted, with some plan.
+pub record Accepted (layout cylinder side sector mark : ℕ) (contents image : List ℕ) : Type 0 where
+  pub plan : Plan
+  pub asked : Requests layout cylinder side sector mark contents image (request.Planned plan)
+
+-- Demand 3 speaks of something: on a track that `format` wrote, in every layout, a request for any of its sectors with a mark and contents that pass
+-- 5, 6 and 7 is accepted.
+abbrev pub FormattedCanBeRewritten : Type 0
+FormattedCanBeRewritten =
+    (layout cylinder side : ℕ) (written marks before image : List ℕ)
+    → Bytes written
+    → Formats layout cylinder side written marks before Written image
+    → (sector mark : ℕ) (contents : List ℕ) → Numbered (layoutOf layout) sector → Fit layout cylinder mark contents
+    → Accepted layout cylinder side sector mark contents image
 
 -- ---- a useless version
 

@@ -1,38 +1,34 @@
 -- The round trip: a formatted track reads back as the very sectors and marks that went in. The statement is over a layout's constants and
 -- over any order of the sectors; natural order is one of them.
 use mathlib.Core.Bool.{cond}
-use mathlib.Core.List.{List, [], _∷_, map}
+use mathlib.Core.List.{List, [], _∷_}
 use mathlib.Core.Path.{_≡_}
 use Prim.Native.Nat.{ℕ, suc, _+_, _-_, _*_, _<_, _≤_}
-use lib.Dec.{eqb, leb}
-use lib.ListN.{length, getD}
-use Rattle.cells.specs.Cells.{cell}
-use Rattle.format.specs.Order as format
+use lib.Dec.{eqb}
+use lib.ListN.{getD, length}
+use Rattle.cells.specs.Cells.{Byte, Bytes}
+use Rattle.format.specs.Order.{Numbered}
 use Rattle.format.specs.Outcomes.{Formats}
-use Rattle.format.specs.declared.Formatted.the-variants.{Written}
-use Rattle.layouts.specs.Layouts.{Every}
 use Rattle.format.specs.Places.{blockPlace}
-use Rattle.layouts.specs.Layouts.{layoutOf, mostSectors, numbers}
-use Rattle.layouts.specs.Refusals.{controlMark}
+use Rattle.format.specs.declared.Formatted.the-variants.{Written}
+use Rattle.layouts.specs.Layouts.{Every, layoutOf, slotIn}
+use Rattle.layouts.specs.Tracks.{trackOf}
 use Rattle.layouts.specs.declared.Checked.the-variants.{Passed}
 use Rattle.layouts.specs.declared.Layout.{Layout}
-use Rattle.read.specs.Walk.{reach, events}
+use Rattle.layouts.specs.declared.Track.{Track}
+use Rattle.read.specs.Answers.{answerNumber}
 use Rattle.read.specs.Outcomes.{Reads}
-use Rattle.read.specs.Answers.{bads, foreigns, blocks, answer, slot, recordsOf, areaOf}
-use Rattle.read.specs.declared.Block.the-variants.{Within}
-use Rattle.read.specs.declared.Event.{Event}
-use Rattle.read.specs.declared.Event.the-variants.{Accepted}
-use Rattle.read.specs.declared.Fault.the-variants.{NoIdentifier}
-use Rattle.read.specs.declared.Answer.{Answer}
-use Rattle.read.specs.declared.Answer.the-variants.{Data, Control, Refused}
+use Rattle.read.specs.Picks.{recordAt}
 use Rattle.read.specs.declared.Reading.{Reading}
-use Rattle.read.specs.declared.Record.{Record}
+use Rattle.walk.specs.Events.{bads, foreigns}
+use Rattle.walk.specs.Outcomes.{met}
+use Rattle.walk.specs.Walk.{reach}
+use Rattle.walk.specs.declared.Block.the-variants.{Within}
+use Rattle.walk.specs.declared.Event.{Event}
+use Rattle.walk.specs.declared.Event.the-variants.{Accepted}
+use Rattle.promises.specs.Sectors.{sectorIn, Back, readsBack, ReadsSo}
 
 -- ---- what is asked
-
--- A number that is a byte.
-abbrev pub Byte : ℕ → Type 0
-Byte x = x < 256
 
 -- Of a layout's constants: 00 bytes before each mark, a gap behind the index mark, the block's mark within reach of the address, and
 -- bytes in the address.
@@ -42,10 +38,6 @@ pub record Legible (l : Layout) : Type 0 where
   pub near : 16 * (l .«identifier_gap» + l .sync) ≤ reach (l .mode)
   pub few : Byte (l .sectors)
   pub fourth : Byte (l .fourth)
-
--- A sector number of the layout.
-abbrev pub Numbered : Layout → ℕ → Type 0
-Numbered l s = (1 ≤ s) × (s ≤ l .sectors)
 
 -- How often s stands in a list.
 unfoldable pub times : ℕ → List ℕ → ℕ
@@ -64,45 +56,37 @@ unfoldable pub acceptedFrom : Layout → ℕ → List ℕ → List Event
 acceptedFrom l i [] = []
 acceptedFrom l i (s ∷ ss) = Accepted s (Within (8 * blockPlace l i)) ∷ acceptedFrom l (suc i) ss
 
--- What a sector with this mark byte answers: control for F8, data for FB.
-abbrev pub markAnswer : ℕ → Answer
-markAnswer mark = cond (eqb mark controlMark) Control Data
+-- What sector s of a track that was formatted with these data and marks reads back as.
+abbrev pub wentIn : Track → (contents marks : List ℕ) → ℕ → Back
+wentIn t contents marks s = readsBack (t .cylinder) (getD marks (s - 1) 0) (slotIn (t .layout .size) s contents)
 
--- The record of sector s of a track with these mark bytes; past the layout's count there is no sector.
-abbrev pub markRecord : Layout → List ℕ → ℕ → Record
-markRecord l marks s = record { answer = cond (leb s (l .sectors)) (markAnswer (getD marks (s - 1) 0)) (Refused NoIdentifier) }
+-- Reading the image gives back the data and the marks: the sectors are met in their order and nothing else is, no identifier is bad or
+-- foreign, and each sector reads as what went in (01, "How a track is read").
+pub record ReadsBack (t : Track) (contents marks order image : List ℕ) : Type 0 where
+  pub meets : met t image ≡ acceptedFrom (t .layout) 0 order
+  pub bad : bads (met t image) ≡ 0
+  pub foreign : foreigns (met t image) ≡ 0
+  pub sectors : (s : ℕ) → Numbered (t .layout) s → ReadsSo (sectorIn t image s) (wentIn t contents marks s)
 
--- What the walk meets on an image.
-abbrev pub met : Layout → ℕ → ℕ → List ℕ → List Event
-met l cylinder side image = events l cylinder side (cell image) (8 * length image)
+-- ---- demand 2
 
-module _ (l : Layout) (cylinder side : ℕ) (contents marks order image : List ℕ) where
-  -- What it meets on this one.
-  abbrev es : List Event
-  es = met l cylinder side image
+-- What `read` hands back of a formatted track: it is not refused, no identifier is bad or foreign, and of each sector the answer's number and
+-- the slot in the area are those of what went in.
+pub record HandsBack (t : Track) (contents marks : List ℕ) (answer : Reading) (area : List ℕ) : Type 0 where
+  pub accepted : answer .verdict ≡ Passed
+  pub counted : answer .sectors ≡ t .layout .sectors
+  pub bad : answer .bad ≡ 0
+  pub foreign : answer .foreign ≡ 0
+  pub answers : (s : ℕ) → Numbered (t .layout) s → answerNumber (recordAt (answer .records) s .answer) ≡ wentIn t contents marks s .number
+  pub slots : (s : ℕ) → Numbered (t .layout) s → slotIn (t .layout .size) s area ≡ wentIn t contents marks s .bytes
+  pub whole : length area ≡ t .layout .sectors * t .layout .size
 
-  -- Reading the image gives back the data and the marks: the sectors are met in their order and nothing else is, no identifier is bad or
-  -- foreign, each sector answers by its mark, and its slot holds its data (01, "How a track is read").
-  pub record ReadsBack : Type 0 where
-    pub meets : es ≡ acceptedFrom l 0 order
-    pub bad : bads es ≡ 0
-    pub foreign : foreigns es ≡ 0
-    pub answers : (s : ℕ) → Numbered l s → answer l (cell image) (8 * length image) (blocks s es) ≡ markAnswer (getD marks (s - 1) 0)
-    pub slots : (s : ℕ) → Numbered l s → slot l (cell image) (8 * length image) (blocks s es) ≡ format.slot (l .size) s contents
-    pub records : recordsOf l (cell image) (8 * length image) es ≡ map (markRecord l marks) (numbers mostSectors 1)
-    pub area : areaOf l (cell image) (8 * length image) es ≡ contents
-
--- What read hands back of a track that was formatted with these mark bytes.
-abbrev pub formattedReading : Layout → List ℕ → Reading
-formattedReading l marks =
-    record { verdict = Passed; sectors = l .sectors; records = record { list = map (markRecord l marks) (numbers mostSectors 1) }; bad = 0; foreign = 0 }
-
--- Demand 2: for every layout, cylinder, side, data and marks that `format` accepts, and whatever the image held before: reading what it wrote
--- answers each sector 1 or 2 by its mark, both counts are 0, and the area holds the very data. (Data are bytes, as every area's contents are.)
+-- Demand 2: for every layout, cylinder, side, data and marks that `format` accepts, and whatever the image held before, reading what it wrote
+-- hands back the very sectors and marks. (Data are bytes, as every area's contents are.)
 abbrev pub ReadsBackAsWritten : Type 0
 ReadsBackAsWritten =
     (layout cylinder side : ℕ) (contents marks before image : List ℕ) (answer : Reading) (area : List ℕ)
-    → Every Byte contents
+    → Bytes contents
     → Formats layout cylinder side contents marks before Written image
     → Reads layout cylinder side image (layoutOf layout .«area_bytes») answer area
-    → (answer ≡ formattedReading (layoutOf layout) marks) × (area ≡ contents)
+    → HandsBack (trackOf layout cylinder side) contents marks answer area

@@ -1,88 +1,94 @@
--- What a block answers, by its mark and its EDC, and what it leaves in the slot.
-use mathlib.Core.Path.{_≡_, refl, sym, ap, _∙_}
+-- What a block answers, by its mark and its EDC, and what it leaves in the slot; what an identifier makes of its sector, and one more of them.
+use mathlib.Core.Path.{_≡_, refl, sym, ap, subst, _∙_}
 use mathlib.Core.Bool.{Bool, true, false, cond}
 use mathlib.Core.List.{List}
 use Prim.Native.Nat.{ℕ, _+_}
 use lib.ListN.{replicate}
 use Rattle.cells.specs.Cells.{dataBytes}
-use Rattle.layouts.specs.declared.Layout.{Layout}
-use Rattle.marks.specs.Marks.{stands}
+use Rattle.layouts.specs.declared.Track.{Track}
+use Rattle.marks.specs.Marks.{markCells, stands}
+use Rattle.marks.specs.declared.Mark.{Mark}
 use Rattle.marks.specs.declared.Mark.the-variants as marks
-use Rattle.read.specs.Walk.{markCells, edcRight}
-use Rattle.read.specs.Answers.{proved, blockAnswer, slotOf, identifierAnswer, identifierSlot}
-use Rattle.read.specs.Turns.{unmet, nextAnswer, nextSlot}
-use Rattle.read.specs.declared.Block.{Block}
-use Rattle.read.specs.declared.Block.the-variants.{Missing, Beyond, Within}
+use Rattle.walk.specs.Walk.{edcRight}
+use Rattle.walk.specs.declared.Block.{Block}
+use Rattle.walk.specs.declared.Block.the-variants.{Missing, Beyond, Within}
+use Rattle.read.specs.Answers.{Sector, slotOf, answering, refused, proved, blockAnswer, blockBytes, identifierRecord}
+use Rattle.read.specs.Turns.{Gives, unmet, next}
 use Rattle.read.specs.declared.Fault.{Fault}
 use Rattle.read.specs.declared.Fault.the-variants.{Doubled, NoBlock, PastEnd, OpenMark, WrongEdc}
 use Rattle.read.specs.declared.Answer.{Answer}
 use Rattle.read.specs.declared.Answer.the-variants.{Data, Control, Refused}
+use Rattle.read.specs.declared.Record.{Record}
 
-module _ (l : Layout) (c : ℕ → ℕ) (n m : ℕ) where
-  -- A refused slot is all zero.
-  zeros : (slot : List ℕ) (k : ℕ) (f : Fault) → slot ≡ replicate k 0 → k ≡ l .size → slot ≡ slotOf l c n (Refused f) m
-  unfolding slotOf
-  zeros slot k f e h = e ∙ ap (λ (j : ℕ). replicate j 0) h
+-- What gives a sector gives whatever is the same.
+pub gives-same : {x y : Sector} {r : Record} {slot : List ℕ} → y ≡ x → Gives x r slot → Gives y r slot
+gives-same {x} {y} {r} {slot} e g = subst (λ (z : Sector). Gives z r slot) (sym e) g
 
-  pub block-open : (o : Bool) (slot : List ℕ) (k : ℕ) → o ≡ stands (l .mode) c n marks.Open m → o ≡ true → slot ≡ replicate k 0 → k ≡ l .size
-      → (Refused OpenMark ≡ blockAnswer l c n m) × (slot ≡ slotOf l c n (Refused OpenMark) m)
+-- A refused record with a slot of zeros gives the refused sector; k is the length of the slot that was lent.
+pub gives-refused : {size : ℕ} {sector : Sector} {r : Record} {slot : List ℕ} (fault : Fault) (k : ℕ) → sector ≡ refused size fault
+    → (r ≡ record { answer = Refused fault }) × (slot ≡ replicate k 0) → k ≡ size → Gives sector r slot
+gives-refused fault k e g h = gives-same e (g .0, g .1 ∙ ap (λ (j : ℕ). replicate j 0) h)
+
+module _ (t : Track) (c : ℕ → ℕ) (n m : ℕ) where
+  -- ---- which mark stands, and so what decides
+
+  is-open : (o : Bool) → o ≡ stands (t .layout .mode) c n marks.Open m → o ≡ true → blockAnswer t c n m ≡ Refused OpenMark
   unfolding blockAnswer
-  block-open o slot k e t z h = (rw (← e, t), zeros slot k OpenMark z h)
+  is-open o told h = rw (← told, h)
 
-  -- What is left where the EDC decides: w is the cells of the mark, k the length of the slot.
-  module _ (w k : ℕ) (u : w ≡ markCells (l .mode)) (h : k ≡ l .size) where
-    -- the answer that a right EDC gives leaves the bytes
-    decided : (right : Bool) (good : Answer) → slotOf l c n good m ≡ dataBytes c (m + markCells (l .mode)) (l .size)
-        → cond right (dataBytes c (m + w) k) (replicate k 0) ≡ slotOf l c n (cond right good (Refused WrongEdc)) m
-    unfolding slotOf
-    decided true good e = rw (u, h) (sym e)
-    decided false good e = rw h
+  -- An open block is refused; k is the length of the slot.
+  pub block-open : {r : Record} {slot : List ℕ} (o : Bool) (k : ℕ) → o ≡ stands (t .layout .mode) c n marks.Open m → o ≡ true
+      → (r ≡ record { answer = Refused OpenMark }) × (slot ≡ replicate k 0) → k ≡ t .layout .size
+      → Gives (answering (t .layout .size) (blockAnswer t c n m) (blockBytes t c n m)) r slot
+  block-open o k told h g e =
+      gives-refused OpenMark k (ap (λ (a : Answer). answering (t .layout .size) a (blockBytes t c n m)) (is-open o told h)) g e
 
-    module _ (o t : Bool) (unopened : o ≡ stands (l .mode) c n marks.Open m) (shut : o ≡ false) (told : t ≡ stands (l .mode) c n marks.Control m)
-        (slot : List ℕ) (answer : Answer) where
-      pub block-control : t ≡ true
-          → answer ≡ cond (edcRight (l .mode) c marks.Control (m + w) (k + 2)) Control (Refused WrongEdc)
-          → slot ≡ cond (edcRight (l .mode) c marks.Control (m + w) (k + 2)) (dataBytes c (m + w) k) (replicate k 0)
-          → (answer ≡ blockAnswer l c n m) × (slot ≡ slotOf l c n answer m)
-      unfolding blockAnswer proved slotOf
-      block-control y a s =
-          let right = edcRight (l .mode) c marks.Control (m + w) (k + 2) in
-          (a ∙ rw (← unopened, shut, ← told, y, ← u, ← h), s ∙ decided right Control refl ∙ rw a)
+  module _ (o k : Bool) (opened : o ≡ stands (t .layout .mode) c n marks.Open m) (shut : o ≡ false) (told : k ≡ stands (t .layout .mode) c n marks.Control m) where
+    pub is-control : k ≡ true → blockAnswer t c n m ≡ proved t c n marks.Control Control m
+    unfolding blockAnswer
+    is-control h = rw (← opened, shut, ← told, h)
 
-      pub block-data : t ≡ false
-          → answer ≡ cond (edcRight (l .mode) c marks.Data (m + w) (k + 2)) Data (Refused WrongEdc)
-          → slot ≡ cond (edcRight (l .mode) c marks.Data (m + w) (k + 2)) (dataBytes c (m + w) k) (replicate k 0)
-          → (answer ≡ blockAnswer l c n m) × (slot ≡ slotOf l c n answer m)
-      unfolding blockAnswer proved slotOf
-      block-data y a s =
-          let right = edcRight (l .mode) c marks.Data (m + w) (k + 2) in
-          (a ∙ rw (← unopened, shut, ← told, y, ← u, ← h), s ∙ decided right Data refl ∙ rw a)
+    pub is-data : k ≡ false → blockAnswer t c n m ≡ proved t c n marks.Data Data m
+    unfolding blockAnswer
+    is-data h = rw (← opened, shut, ← told, h)
 
--- What an identifier's block makes of it.
-module _ (l : Layout) (c : ℕ → ℕ) (n : ℕ) (block : Block) (slot : List ℕ) where
-  pub identifier-missing : (k : ℕ) → block ≡ Missing → slot ≡ replicate k 0 → k ≡ l .size
-      → (Refused NoBlock ≡ identifierAnswer l c n block) × (slot ≡ identifierSlot l c n block)
-  unfolding identifierAnswer identifierSlot
-  identifier-missing k e z h = (rw e, rw (e, ← h) z)
+  -- ---- what the EDC decides: w is the cells of the mark, k the length of the slot
 
-  pub identifier-beyond : (k m : ℕ) → block ≡ Beyond m → slot ≡ replicate k 0 → k ≡ l .size
-      → (Refused PastEnd ≡ identifierAnswer l c n block) × (slot ≡ identifierSlot l c n block)
-  unfolding identifierAnswer identifierSlot
-  identifier-beyond k m e z h = (rw e, rw (e, ← h) z)
+  decided : (size : ℕ) (right : Bool) (good : Answer) (bytes : List ℕ) → slotOf size good bytes ≡ bytes
+      → cond right bytes (replicate size 0) ≡ slotOf size (cond right good (Refused WrongEdc)) bytes
+  decided size true good bytes e = sym e
+  decided size false good bytes e = refl
 
-  pub identifier-within : (m : ℕ) (answer : Answer) → block ≡ Within m → answer ≡ blockAnswer l c n m → slot ≡ slotOf l c n answer m
-      → (answer ≡ identifierAnswer l c n block) × (slot ≡ identifierSlot l c n block)
-  unfolding identifierAnswer identifierSlot
-  identifier-within m answer e a s = (rw e a, rw (e, ← a) s)
+  pub block-decided : {r : Record} {slot : List ℕ} (mark : Mark) (good : Answer) (w k : ℕ) → w ≡ markCells (t .layout .mode) → k ≡ t .layout .size
+      → blockAnswer t c n m ≡ proved t c n mark good m → ((size : ℕ) (bytes : List ℕ) → slotOf size good bytes ≡ bytes)
+      → (r ≡ record { answer = cond (edcRight (t .layout .mode) c mark (m + w) (k + 2)) good (Refused WrongEdc) })
+      × (slot ≡ cond (edcRight (t .layout .mode) c mark (m + w) (k + 2)) (dataBytes c (m + w) k) (replicate k 0))
+      → Gives (answering (t .layout .size) (blockAnswer t c n m) (blockBytes t c n m)) r slot
+  unfolding proved blockBytes
+  block-decided mark good w k u h e full g =
+      let right = edcRight (t .layout .mode) c mark (m + w) (k + 2) in
+      rw (e, ← u, ← h) (g .0, g .1 ∙ decided k right good (dataBytes c (m + w) k) (full k _))
 
-  -- The first identifier of a sector, and one more.
-  module _ (before : Answer) (new : Bool) (told : new ≡ unmet before) where
-    pub next-first : (answer : Answer) → new ≡ true → answer ≡ identifierAnswer l c n block → slot ≡ identifierSlot l c n block
-        → (answer ≡ nextAnswer l c n before block) × (slot ≡ nextSlot l c n before block)
-    unfolding nextAnswer nextSlot
-    next-first answer y a s = (rw (← told, y) a, rw (← told, y) s)
+-- ---- an identifier, and one more
 
-    pub next-more : (k : ℕ) → new ≡ false → slot ≡ replicate k 0 → k ≡ l .size
-        → (Refused Doubled ≡ nextAnswer l c n before block) × (slot ≡ nextSlot l c n before block)
-    unfolding nextAnswer nextSlot
-    next-more k y z h = (rw (← told, y), rw (← told, y, ← h) z)
+module _ (t : Track) (c : ℕ → ℕ) (n : ℕ) (block : Block) where
+  pub is-missing : block ≡ Missing → identifierRecord t c n block ≡ refused (t .layout .size) NoBlock
+  unfolding identifierRecord
+  is-missing e = rw e
+
+  pub is-beyond : (m : ℕ) → block ≡ Beyond m → identifierRecord t c n block ≡ refused (t .layout .size) PastEnd
+  unfolding identifierRecord
+  is-beyond m e = rw e
+
+  pub is-within : (m : ℕ) → block ≡ Within m → identifierRecord t c n block ≡ answering (t .layout .size) (blockAnswer t c n m) (blockBytes t c n m)
+  unfolding identifierRecord
+  is-within m e = rw e
+
+  module _ (before : Record) (new : Bool) (told : new ≡ unmet (before .answer)) where
+    pub is-first : new ≡ true → next t c n before block ≡ identifierRecord t c n block
+    unfolding next
+    is-first h = rw (← told, h)
+
+    pub is-more : new ≡ false → next t c n before block ≡ refused (t .layout .size) Doubled
+    unfolding next
+    is-more h = rw (← told, h)

@@ -1,36 +1,20 @@
--- How a slot is filled: with zeros, by a loop, and with data bytes, which then enter the register with the two EDC bytes behind them.
-use mathlib.Core.Path.{_≡_, sym, ap, _∙_}
+-- How a slot is filled with data bytes, which then enter the register with the two EDC bytes behind them.
+use mathlib.Core.Path.{_≡_, sym, _∙_}
 use mathlib.Core.Bool.{true, false}
 use mathlib.Core.List.{List, _++_}
-use Prim.Native.Nat.{ℕ, suc, _+_, _-_, _*_, _<_, _≤_}
-use native.Mathlib.Numerals.{add-one}
+use Prim.Native.Nat.{ℕ, _+_, _*_}
 use native.Mathlib.Omega.{arith}
 use borrow.Author.Tests.{eq-eqb, ne-eqb}
-use lib.ListN.{length, set, replicate, length-replicate}
-use lib.Seq.{sets}
+use lib.ListN.{length}
 use Rattle.cells.specs.Cells.{dataByte, dataBytes}
 use Rattle.cells.specs.declared.Mode.{Mode}
 use Rattle.cells.proofs.Bytes.{length-data, data-append}
-use Rattle.cells.proofs.Stores.{sets-whole}
 use Rattle.edc.specs.Register.{byteEntered, bytesEntered, edcOf}
 use Rattle.edc.proofs.Laws.{bytes-append}
 use Rattle.marks.specs.Marks.{covered, registerAfter}
 use Rattle.marks.specs.declared.Mark.{Mark}
 use Rattle.marks.proofs.Spelling.{register-all}
-use Rattle.read.specs.Walk.{edcRight}
-
--- ---- zeros
-
-pub zero-turn : (area : List ℕ) (n i : ℕ) → i < n → sets area i (replicate (n - i) 0) ≡ sets (set area i 0) (i + 1) (replicate (n - (i + 1)) 0)
-zero-turn area n i h =
-    let e : n - i ≡ suc (n - (i + 1)) = omega arith in
-    ap (λ (k : ℕ). sets area i (replicate k 0)) e ∙ rw (add-one i)
-
-pub zero-end : (area : List ℕ) (n i : ℕ) → n ≤ i → sets area i (replicate (n - i) 0) ≡ area
-zero-end area n i h = let e : n - i ≡ 0 = omega arith in rw e
-
-pub zero-whole : (area : List ℕ) → sets area 0 (replicate (length area) 0) ≡ replicate (length area) 0
-zero-whole area = sets-whole area (replicate (length area) 0) (length-replicate (length area) 0)
+use Rattle.walk.specs.Walk.{edcRight}
 
 -- ---- data bytes
 

@@ -1,13 +1,16 @@
-pub mod Ways
-pub mod Walking
-pub mod Events
+-- the papers' numbers of the answers
+pub mod Numbering
+-- lists by sector number: records, slots, the area
 pub mod Sectors
+-- what one block more makes of its sector; every slot's length
+pub mod Recording
+-- what the reader's loop holds
 pub mod States
-pub mod Addresses
-pub mod Stepping
+-- how a slot is filled, and its EDC
 pub mod Filling
+-- what a block and an identifier make of their sector
 pub mod Answering
-pub mod Locating
-pub mod Fitting
+-- what is known of a read that its tests pass
 pub mod Passing
+-- what is known of a pick that its tests pass
 pub mod Picking

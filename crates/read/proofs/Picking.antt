@@ -1,21 +1,17 @@
 -- What is known of a pick that its tests pass, and what it hands back.
-use mathlib.Core.Path.{_≡_, sym, ap, subst, _∙_}
+use mathlib.Core.Path.{_≡_, _∙_}
 use mathlib.Core.Bool.{Bool, true, false}
 use mathlib.Core.List.{[], _∷_}
-use Prim.Native.Nat.{ℕ, zero, suc, _*_, _≤_}
+use Prim.Native.Nat.{ℕ, _*_, _≤_}
 use native.Mathlib.Omega.{arith}
 use borrow.Author.Tests.{eqb-true, ltb-false, not-false}
-use lib.Dec.{eqb, ltb}
-use Rattle.layouts.specs.Layouts.{highest, layoutOf}
-use Rattle.layouts.specs.Refusals.{refusal, taken, numberTest}
-use Rattle.layouts.specs.declared.Layout.{Layout}
-use Rattle.layouts.specs.declared.Checked.the-variants.{Passed}
-use Rattle.layouts.specs.declared.Chosen.{Chosen}
-use Rattle.layouts.specs.declared.Chosen.the-variants as chosen
+use Rattle.layouts.specs.Layouts.{highest, mostSectors, layoutOf}
+use Rattle.layouts.specs.Refusals.{numberTest}
 use Rattle.layouts.proofs.Layouts.{adds}
-use Rattle.layouts.proofs.Refusals.{passed-both, or-left, or-right, refusal-passed, taken-passed}
-use Rattle.read.specs.Answers.{answered}
-use Rattle.read.specs.Turns.{Modest}
+use Rattle.walk.proofs.Passing.{sector-known}
+use Rattle.verdicts.specs.Tests.{passed, refusal}
+use Rattle.verdicts.proofs.Tests.{passed-both, first-passed}
+use Rattle.read.specs.Answers.{carries}
 use Rattle.read.specs.Picks.{areaTests, pickTests, choice}
 use Rattle.read.specs.declared.Record.{Record}
 use Rattle.read.specs.declared.Choice.the-variants.{First, Second, Neither}
@@ -23,50 +19,42 @@ use Rattle.read.proofs.Passing.{modest}
 
 -- ---- the pass that is taken
 
-module _ (one two : Record) (a : Bool) (first : a ≡ answered (one .answer)) where
+module _ (one two : Record) (a : Bool) (first : a ≡ carries (one .answer)) where
   pub takes-first : a ≡ true → First one ≡ choice one two
   takes-first h = rw (← first, h)
 
-  module _ (b : Bool) (second : b ≡ answered (two .answer)) (no : a ≡ false) where
+  module _ (b : Bool) (second : b ≡ carries (two .answer)) (no : a ≡ false) where
     pub takes-second : b ≡ true → Second two ≡ choice one two
     takes-second h = rw (← first, no, ← second, h)
 
     pub takes-neither : b ≡ false → Neither one ≡ choice one two
     takes-neither h = rw (← first, no, ← second, h)
 
--- ---- a pick that its tests pass: k is the layout that was chosen
+-- ---- a pick that its tests pass
 
-pub record Pickable (layout sector first second : ℕ) (k : Layout) : Type 0 where
-  pub named : k ≡ layoutOf layout
-  pub passed : refusal (pickTests layout sector first second) ≡ Passed
+pub record Pickable (layout sector first second : ℕ) : Type 0 where
+  pub known : layout ≤ highest
   pub low : 1 ≤ sector
-  pub high : sector ≤ k .sectors
-  pub small : Modest k
-  pub one : first ≡ k .sectors * k .size
-  pub two : second ≡ k .sectors * k .size
+  pub high : sector ≤ layoutOf layout .sectors
+  pub few : sector ≤ mostSectors
+  pub one : first ≡ layoutOf layout .sectors * layoutOf layout .size
+  pub two : second ≡ layoutOf layout .sectors * layoutOf layout .size
 
-pub pickable : (layout sector first second : ℕ) (r : Chosen) (k : Layout)
-    → r ≡ taken (layoutOf layout) (refusal (pickTests layout sector first second)) → r ≡ chosen.Taken k → Pickable layout sector first second k
+pub pickable : (layout sector first second : ℕ) → refusal (pickTests layout sector first second) ≡ passed → Pickable layout sector first second
 unfolding pickTests areaTests
-pickable layout sector first second r k of e =
-    let known = taken-passed (layoutOf layout) k (refusal (pickTests layout sector first second)) (sym of ∙ e) in
+pickable layout sector first second h =
     let l = layoutOf layout in
-    let both = passed-both (numberTest layout ∷ []) (areaTests l sector first second) (known .0) in
-    let n : layout ≤ highest = ltb-false _ _ (refusal-passed _ _ (both .0) .0) in
-    let nine = refusal-passed _ _ (both .1) in
-    let five = refusal-passed _ _ (nine .1) in
-    let more = refusal-passed _ _ (five .1) in
-    let area : l .«area_bytes» ≡ k .sectors * k .size = adds layout n .area ∙ ap (λ (m : Layout). m .sectors * m .size) (sym (known .1)) in
+    let both = passed-both (numberTest layout ∷ []) (areaTests l sector first second) h in
+    let n : layout ≤ highest = ltb-false _ _ (first-passed _ _ (both .0) .0) in
+    let nine = first-passed _ _ (both .1) in
+    let there = sector-known (l .sectors) sector (nine .0) in
+    let five = first-passed _ _ (nine .1) in
+    let more = first-passed _ _ (five .1) in
     record {
-      named = known .1;
-      passed = known .0;
-      low = some sector (or-left (eqb sector 0) (ltb (l .sectors) sector) (nine .0));
-      high = subst (λ (m : Layout). sector ≤ m .sectors) (sym (known .1)) (ltb-false _ _ (or-right (eqb sector 0) (ltb (l .sectors) sector) (nine .0)));
-      small = subst Modest (sym (known .1)) (modest layout n);
-      one = eqb-true first (l .«area_bytes») (not-false _ (five .0)) ∙ area;
-      two = eqb-true second (l .«area_bytes») (not-false _ (more .0)) ∙ area;
+      known = n;
+      low = there .0;
+      high = there .1;
+      few = omega (arith, there .1, modest layout .1);
+      one = eqb-true first (l .«area_bytes») (not-false _ (five .0)) ∙ adds layout .area;
+      two = eqb-true second (l .«area_bytes») (not-false _ (more .0)) ∙ adds layout .area;
     }
-  where
-    some : (s : ℕ) → eqb s 0 ≡ false → 1 ≤ s
-    some zero e = let z : _≡_ {A = ℕ} 0 1 = cc in absurd (omega arith)
-    some (suc s) e = omega arith

@@ -5,8 +5,8 @@ use mathlib.Core.Logic.{⊎-elim}
 use Prim.Native.Nat.{ℕ, zero, suc, _+_, _-_, _*_, _≤_, _<_}
 use native.Mathlib.Nat.{suc-mul, add-mul, add-comm, eq-or-lt-of-le}
 use native.Mathlib.Omega.{arith}
-use lib.ListN.{length, getD, set, drop, replicate, length-append, replicate-append-replicate}
-use lib.Seq.{sets, sets-eq}
+use lib.ListN.{length, getD, set, take, drop, replicate, length-append, replicate-append-replicate}
+use lib.Seq.{sets, sets-eq, take-at, drop-drop}
 use Rattle.layouts.specs.Layouts.{numbers}
 use Rattle.read.specs.Answers.{slots}
 
@@ -126,3 +126,26 @@ module _ (size : ℕ) where
       let f : k * size ≡ (s - 1) * size + size + (k - s) * size =
       ap (λ (i : ℕ). i * size) e ∙ add-mul (suc (s - 1)) (k - s) size ∙ ap (λ (i : ℕ). i + (k - s) * size) (suc-mul (s - 1) size) in
       omega (arith, f)
+
+  -- A sector's slot in the area is its own.
+  pub slots-at : (f : ℕ → List ℕ) → ((x : ℕ) → length (f x) ≡ size) → (k a s : ℕ) → a ≤ s → s < a + k
+      → take size (drop ((s - a) * size) (slots f (numbers k a))) ≡ f s
+  unfolding slots
+  slots-at f long zero a s h j = absurd (omega arith)
+  slots-at f long (suc k) a s h j = ⊎-elim here (λ lt. there lt (slots-at f long k (suc a) s lt (omega arith))) (eq-or-lt-of-le h)
+    where
+      more : List ℕ
+      more = slots f (numbers k (suc a))
+
+      here : a ≡ s → take size (drop ((s - a) * size) (f a ++ more)) ≡ f s
+      here e =
+          let z : s - a ≡ 0 = omega arith in
+          let y : 0 * size ≡ 0 = omega arith in
+          rw (z, y) (take-at (f a) more size (long a) ∙ ap f e)
+
+      there : a < s → take size (drop ((s - suc a) * size) more) ≡ f s → take size (drop ((s - a) * size) (f a ++ more)) ≡ f s
+      there lt e =
+          let z : s - a ≡ suc (s - suc a) = omega arith in
+          let y : (s - a) * size ≡ length (f a) + (s - suc a) * size =
+          ap (λ (i : ℕ). i * size) z ∙ suc-mul (s - suc a) size ∙ add-comm ((s - suc a) * size) size ∙ ap (λ (i : ℕ). i + (s - suc a) * size) (sym (long a)) in
+          rw (y, ← drop-drop ((s - suc a) * size) (length (f a)) (f a ++ more), drop-front (f a) more) e

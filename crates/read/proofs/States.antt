@@ -9,65 +9,71 @@ use lib.ListN.{getD, set, replicate}
 use lib.Seq.{sets}
 use mathlib.Core.Bool.{cond, Bool, true, false}
 use Rattle.layouts.specs.Layouts.{mostSectors}
-use Rattle.layouts.specs.declared.Layout.{Layout}
-use Rattle.read.specs.Answers.{bads, foreigns, blocks, answer, slot, recordOf, recordsOf, areaOf}
-use Rattle.read.specs.Turns.{nextAnswer, nextSlot}
+use Rattle.layouts.specs.declared.Track.{Track}
+use Rattle.walk.specs.Events.{bads, foreigns, blocks}
+use Rattle.walk.specs.declared.Block.{Block}
+use Rattle.walk.specs.declared.Event.{Event}
+use Rattle.walk.specs.declared.Event.the-variants.{Bad, Foreign, Accepted}
+use Rattle.walk.proofs.Events.{bads-append, foreigns-append, blocks-own, blocks-other, blocks-bad, blocks-foreign}
+use Rattle.read.specs.Answers.{Sector, refused, recordFor, sectorOf, recordsOf, areaOf}
+use Rattle.read.specs.Turns.{next}
 use Rattle.read.specs.Outcomes.{unread}
-use Rattle.read.specs.declared.Block.{Block}
-use Rattle.read.specs.declared.Event.{Event}
-use Rattle.read.specs.declared.Event.the-variants.{Bad, Foreign, Accepted}
 use Rattle.read.specs.declared.Fault.the-variants.{NoIdentifier}
-use Rattle.read.specs.declared.Answer.the-variants.{Refused}
 use Rattle.read.specs.declared.Record.{Record}
-use Rattle.read.proofs.Events.{bads-append, foreigns-append, blocks-own, blocks-other, blocks-bad, blocks-foreign, answer-next, slot-next, length-slot}
+use Rattle.read.proofs.Recording.{record-next, length-sector}
 use Rattle.read.proofs.Sectors.{map-same, map-all, map-at, map-set, slots-same, slots-zero, slots-set}
 
-module _ (l : Layout) (c : ℕ → ℕ) (n : ℕ) where
+module _ (t : Track) (c : ℕ → ℕ) (n : ℕ) where
   -- ---- one event more
 
-  -- An event that is of no sector leaves records and area.
-  records-kept : (xs ys : List Event) → ((s : ℕ) → blocks s ys ≡ blocks s xs) → recordsOf l c n ys ≡ recordsOf l c n xs
-  unfolding recordsOf recordOf
-  records-kept xs ys same = map-same (recordOf l c n xs) (recordOf l c n ys) mostSectors 1 (λ s _. rw (same s))
+  sector-kept : (xs ys : List Event) (s : ℕ) → blocks s ys ≡ blocks s xs → sectorOf t c n ys s ≡ sectorOf t c n xs s
+  unfolding sectorOf
+  sector-kept xs ys s same = rw same
 
-  area-kept : (xs ys : List Event) → ((s : ℕ) → blocks s ys ≡ blocks s xs) → areaOf l c n ys ≡ areaOf l c n xs
+  -- An event that is of no sector leaves records and area.
+  records-kept : (xs ys : List Event) → ((s : ℕ) → blocks s ys ≡ blocks s xs) → recordsOf t c n ys ≡ recordsOf t c n xs
+  unfolding recordsOf
+  records-kept xs ys same =
+      map-same (λ s. sectorOf t c n xs s .known) (λ s. sectorOf t c n ys s .known) mostSectors 1
+      (λ s _. ap (λ (x : Sector). x .known) (sector-kept xs ys s (same s)))
+
+  area-kept : (xs ys : List Event) → ((s : ℕ) → blocks s ys ≡ blocks s xs) → areaOf t c n ys ≡ areaOf t c n xs
   unfolding areaOf
   area-kept xs ys same =
-      slots-same (l .size) (λ s. slot l c n (blocks s xs)) (λ s. slot l c n (blocks s ys)) (l .sectors) 1 (λ s _. ap (slot l c n) (same s))
+      slots-same (t .layout .size) (λ s. sectorOf t c n xs s .slot) (λ s. sectorOf t c n ys s .slot) (t .layout .sectors) 1
+      (λ s _. ap (λ (x : Sector). x .slot) (sector-kept xs ys s (same s)))
 
-  module _ (xs : List Event) (s : ℕ) (few : l .sectors ≤ mostSectors) (low : 1 ≤ s) (high : s ≤ l .sectors) where
-    -- The record of an accepted sector, as it is.
-    pub record-at : (d : Record) → getD (recordsOf l c n xs) (s - 1) d .answer ≡ answer l c n (blocks s xs)
-    unfolding recordsOf recordOf
-    record-at d =
-        ap (λ (r : Record). r .answer) (map-at (recordOf l c n xs) d mostSectors 1 s low (omega arith)) ∙ rw (le-leb s (l .sectors) high)
+  module _ (xs : List Event) (s : ℕ) (few : t .layout .sectors ≤ mostSectors) (low : 1 ≤ s) (high : s ≤ t .layout .sectors) where
+    -- The record of an accepted sector, as it is held.
+    record-at : (d : Record) → getD (recordsOf t c n xs) (s - 1) d ≡ sectorOf t c n xs s .known
+    unfolding recordsOf
+    record-at d = map-at (λ x. sectorOf t c n xs x .known) d mostSectors 1 s low (omega arith)
 
-    -- As it is with one block more.
-    record-next : (b : Block) (d : Record)
-        → recordOf l c n (xs ++ Accepted s b ∷ []) s ≡ record { answer = nextAnswer l c n (getD (recordsOf l c n xs) (s - 1) d .answer) b }
-    unfolding recordOf
-    record-next b d = rw (record-at d, le-leb s (l .sectors) high, blocks-own s xs b, answer-next l c n (blocks s xs) b)
+    -- The sector with one block more.
+    sector-next : (b : Block) (d : Record) → sectorOf t c n (xs ++ Accepted s b ∷ []) s ≡ next t c n (getD (recordsOf t c n xs) (s - 1) d) b
+    unfolding sectorOf
+    sector-next b d = rw (record-at d, le-leb s (t .layout .sectors) high, blocks-own s xs b) (record-next t c n (blocks s xs) b)
+
+    other-kept : (b : Block) (x : ℕ) → (s ≡ x → ⊥) → sectorOf t c n (xs ++ Accepted s b ∷ []) x ≡ sectorOf t c n xs x
+    other-kept b x o = sector-kept xs (xs ++ Accepted s b ∷ []) x (blocks-other x s xs b o)
 
     records-next : (b : Block) (d : Record)
-        → recordsOf l c n (xs ++ Accepted s b ∷ [])
-        ≡ set (recordsOf l c n xs) (s - 1) (record { answer = nextAnswer l c n (getD (recordsOf l c n xs) (s - 1) d .answer) b })
-    unfolding recordsOf recordOf
+        → recordsOf t c n (xs ++ Accepted s b ∷ []) ≡ set (recordsOf t c n xs) (s - 1) (next t c n (getD (recordsOf t c n xs) (s - 1) d) b .known)
+    unfolding recordsOf
     records-next b d =
-        map-set (recordOf l c n xs) (recordOf l c n (xs ++ Accepted s b ∷ [])) s (λ x o. rw (blocks-other x s xs b o)) mostSectors 1 low
-        ∙ ap (set (recordsOf l c n xs) (s - 1)) (record-next b d)
-
-    slot-now : (b : Block) (d : Record)
-        → slot l c n (blocks s (xs ++ Accepted s b ∷ [])) ≡ nextSlot l c n (getD (recordsOf l c n xs) (s - 1) d .answer) b
-    slot-now b d = rw (blocks-own s xs b, record-at d) (slot-next l c n (blocks s xs) b)
+        map-set (λ x. sectorOf t c n xs x .known) (λ x. sectorOf t c n (xs ++ Accepted s b ∷ []) x .known) s
+        (λ x o. ap (λ (y : Sector). y .known) (other-kept b x o)) mostSectors 1 low
+        ∙ ap (λ (y : Sector). set (recordsOf t c n xs) (s - 1) (y .known)) (sector-next b d)
 
     area-next : (b : Block) (d : Record)
-        → areaOf l c n (xs ++ Accepted s b ∷ []) ≡ sets (areaOf l c n xs) ((s - 1) * l .size) (nextSlot l c n (getD (recordsOf l c n xs) (s - 1) d .answer) b)
+        → areaOf t c n (xs ++ Accepted s b ∷ [])
+        ≡ sets (areaOf t c n xs) ((s - 1) * t .layout .size) (next t c n (getD (recordsOf t c n xs) (s - 1) d) b .slot)
     unfolding areaOf
     area-next b d =
-        slots-set (l .size) (λ x. slot l c n (blocks x xs)) (λ x. slot l c n (blocks x (xs ++ Accepted s b ∷ []))) s
-        (λ x. length-slot l c n (blocks x xs)) (λ x. length-slot l c n (blocks x (xs ++ Accepted s b ∷ [])))
-        (λ x o. ap (slot l c n) (blocks-other x s xs b o)) (l .sectors) 1 low (omega arith)
-        ∙ ap (sets (areaOf l c n xs) ((s - 1) * l .size)) (slot-now b d)
+        slots-set (t .layout .size) (λ x. sectorOf t c n xs x .slot) (λ x. sectorOf t c n (xs ++ Accepted s b ∷ []) x .slot) s
+        (λ x. length-sector t c n xs x) (λ x. length-sector t c n (xs ++ Accepted s b ∷ []) x)
+        (λ x o. ap (λ (y : Sector). y .slot) (other-kept b x o)) (t .layout .sectors) 1 low (omega arith)
+        ∙ ap (λ (y : Sector). sets (areaOf t c n xs) ((s - 1) * t .layout .size) (y .slot)) (sector-next b d)
 
   -- ---- the state
 
@@ -75,28 +81,34 @@ module _ (l : Layout) (c : ℕ → ℕ) (n : ℕ) where
   pub record State (all left : List Event) (records : List Record) (area : List ℕ) (bad foreign : ℕ) : Type 0 where
     pub done : List Event
     pub whole : all ≡ done ++ left
-    pub has-records : records ≡ recordsOf l c n done
-    pub has-area : area ≡ areaOf l c n done
+    pub has-records : records ≡ recordsOf t c n done
+    pub has-area : area ≡ areaOf t c n done
     pub has-bad : bad ≡ bads done
     pub has-foreign : foreign ≡ foreigns done
 
+  nothing-met : (s : ℕ) → sectorOf t c n [] s ≡ refused (t .layout .size) NoIdentifier
+  unfolding sectorOf recordFor blocks
+  nothing-met s = by (leb s (t .layout .sectors))
+    where
+      by : (b : Bool) → cond b (refused (t .layout .size) NoIdentifier) (refused (t .layout .size) NoIdentifier) ≡ refused (t .layout .size) NoIdentifier
+      by true = refl
+      by false = refl
+
   -- At the start nothing has been met.
-  pub state-start : (all left : List Event) (area : List ℕ) → all ≡ left → area ≡ replicate (l .sectors * l .size) 0
+  pub state-start : (all left : List Event) (area : List ℕ) → all ≡ left → area ≡ replicate (t .layout .sectors * t .layout .size) 0
       → State all left (replicate mostSectors unread) area 0 0
-  unfolding bads foreigns recordsOf recordOf areaOf blocks slot answer
+  unfolding bads foreigns recordsOf areaOf
   state-start all left area e a =
       record {
         done = [];
         whole = e;
-        has-records = sym (map-all (recordOf l c n []) unread (λ s. by (leb s (l .sectors))) mostSectors 1);
-        has-area = a ∙ sym (slots-zero (l .size) (λ s. slot l c n (blocks s [])) (λ s. refl) (l .sectors) 1);
+        has-records = sym (map-all (λ s. sectorOf t c n [] s .known) unread (λ s. ap (λ (x : Sector). x .known) (nothing-met s)) mostSectors 1);
+        has-area =
+            a
+            ∙ sym (slots-zero (t .layout .size) (λ s. sectorOf t c n [] s .slot) (λ s. ap (λ (x : Sector). x .slot) (nothing-met s)) (t .layout .sectors) 1);
         has-bad = refl;
         has-foreign = refl;
       }
-    where
-      by : (b : Bool) → _≡_ {A = Record} (record { answer = cond b (Refused NoIdentifier) (Refused NoIdentifier) }) unread
-      by true = refl
-      by false = refl
 
   module _ {all left rest : List Event} {records : List Record} {area : List ℕ} {bad foreign : ℕ} (state : State all left records area bad foreign) where
     -- The same is left, said otherwise.
@@ -139,9 +151,9 @@ module _ (l : Layout) (c : ℕ → ℕ) (n : ℕ) where
         }
 
     pub state-accepted : (s : ℕ) (b : Block) (d : Record) {records′ : List Record} {area′ : List ℕ} → left ≡ Accepted s b ∷ rest
-        → l .sectors ≤ mostSectors → 1 ≤ s → s ≤ l .sectors
-        → records′ ≡ set records (s - 1) (record { answer = nextAnswer l c n (getD records (s - 1) d .answer) b })
-        → area′ ≡ sets area ((s - 1) * l .size) (nextSlot l c n (getD records (s - 1) d .answer) b)
+        → t .layout .sectors ≤ mostSectors → 1 ≤ s → s ≤ t .layout .sectors
+        → records′ ≡ set records (s - 1) (next t c n (getD records (s - 1) d) b .known)
+        → area′ ≡ sets area ((s - 1) * t .layout .size) (next t c n (getD records (s - 1) d) b .slot)
         → State all rest records′ area′ bad foreign
     unfolding bads foreigns
     state-accepted s b d f few low high r a =
@@ -156,7 +168,7 @@ module _ (l : Layout) (c : ℕ → ℕ) (n : ℕ) where
 
   -- Where nothing is left, all has been met.
   pub state-end : {all left : List Event} {records : List Record} {area : List ℕ} {bad foreign : ℕ} → State all left records area bad foreign → left ≡ []
-      → (records ≡ recordsOf l c n all) × (area ≡ areaOf l c n all) × (bad ≡ bads all) × (foreign ≡ foreigns all)
+      → (records ≡ recordsOf t c n all) × (area ≡ areaOf t c n all) × (bad ≡ bads all) × (foreign ≡ foreigns all)
   state-end {all} state f =
       let e : state .done ≡ all = sym (append-nil (state .done)) ∙ ap (λ x. state .done ++ x) (sym f) ∙ sym (state .whole) in
       (rw (← e) (state .has-records), rw (← e) (state .has-area), rw (← e) (state .has-bad), rw (← e) (state .has-foreign))

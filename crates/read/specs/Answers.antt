@@ -1,21 +1,21 @@
--- What reading answers, as functions of what the walk meets and of the cells: each sector's answer and slot, and the two counts
+-- What reading answers, as functions of what the walk meets and of the cells: what is known of each sector, its record and its slot
 -- (01, "How a track is read").
 use mathlib.Core.Bool.{Bool, true, false, cond}
 use mathlib.Core.List.{List, [], _∷_, _++_, map}
-use Prim.Native.Nat.{ℕ, suc, _+_}
+use Prim.Native.Nat.{ℕ, _+_}
 use lib.Dec.{eqb, leb}
 use lib.ListN.{replicate}
 use Rattle.cells.specs.Cells.{dataBytes}
 use Rattle.layouts.specs.Layouts.{mostSectors, numbers}
-use Rattle.layouts.specs.declared.Layout.{Layout}
-use Rattle.marks.specs.Marks.{stands}
+use Rattle.layouts.specs.declared.Track.{Track}
+use Rattle.marks.specs.Marks.{markCells, stands}
 use Rattle.marks.specs.declared.Mark.{Mark}
 use Rattle.marks.specs.declared.Mark.the-variants as marks
-use Rattle.read.specs.Walk.{markCells, edcRight}
-use Rattle.read.specs.declared.Block.{Block}
-use Rattle.read.specs.declared.Block.the-variants.{Missing, Beyond, Within}
-use Rattle.read.specs.declared.Event.{Event}
-use Rattle.read.specs.declared.Event.the-variants.{Bad, Foreign, Accepted}
+use Rattle.walk.specs.Walk.{edcRight}
+use Rattle.walk.specs.Events.{blocks}
+use Rattle.walk.specs.declared.Block.{Block}
+use Rattle.walk.specs.declared.Block.the-variants.{Missing, Beyond, Within}
+use Rattle.walk.specs.declared.Event.{Event}
 use Rattle.read.specs.declared.Fault.{Fault}
 use Rattle.read.specs.declared.Fault.the-variants.{NoIdentifier, Doubled, NoBlock, PastEnd, OpenMark, WrongEdc}
 use Rattle.read.specs.declared.Answer.{Answer}
@@ -33,90 +33,97 @@ faultNumber WrongEdc = 26
 
 -- The number of an answer.
 abbrev pub answerNumber : Answer → ℕ
+answerNumber (Refused fault) = faultNumber fault
 answerNumber Data = 1
 answerNumber Control = 2
-answerNumber (Refused fault) = faultNumber fault
+
+-- The answers that have numbers of their own; any other number counts as 21.
+abbrev pub answers : List Answer
+answers =
+    Data
+    ∷ Control
+    ∷ Refused Doubled
+    ∷ Refused NoBlock
+    ∷ Refused PastEnd
+    ∷ Refused OpenMark
+    ∷ Refused WrongEdc
+    ∷ []
+
+-- The answer among these that has the number; where none has it, 21: no accepted identifier.
+abbrev pub answerAmong : List Answer → ℕ → Answer
+answerAmong [] number = Refused NoIdentifier
+answerAmong (answer ∷ more) number = cond (eqb number (answerNumber answer)) answer (answerAmong more number)
+
+-- The answer that has the number (the law `answer-back`).
+unfoldable pub answerOf : ℕ → Answer
+answerOf = answerAmong answers
 
 -- An answer carries the sector's bytes.
-abbrev pub answered : Answer → Bool
-answered Data = true
-answered Control = true
-answered (Refused fault) = false
+abbrev pub carries : Answer → Bool
+carries (Refused fault) = false
+carries Data = true
+carries Control = true
 
--- ---- from what the walk met
-
--- The identifiers whose EDC is wrong, and those of other tracks: exactly what step 2 meets.
-unfoldable pub bads : List Event → ℕ
-bads [] = 0
-bads (Bad ∷ es) = suc (bads es)
-bads (Foreign ∷ es) = bads es
-bads (Accepted s b ∷ es) = bads es
-
-unfoldable pub foreigns : List Event → ℕ
-foreigns [] = 0
-foreigns (Bad ∷ es) = foreigns es
-foreigns (Foreign ∷ es) = suc (foreigns es)
-foreigns (Accepted s b ∷ es) = foreigns es
-
--- What the accepted identifiers of sector s gave.
-unfoldable pub blocks : ℕ → List Event → List Block
-blocks s [] = []
-blocks s (Bad ∷ es) = blocks s es
-blocks s (Foreign ∷ es) = blocks s es
-blocks s (Accepted x b ∷ es) = cond (eqb x s) (b ∷ blocks s es) (blocks s es)
+-- What is known of a sector: its record, and what its slot holds.
+pub record Sector : Type 0 where
+  pub known : Record
+  pub slot : List ℕ
 
 -- What each of these sectors has, one behind the other.
 unfoldable pub slots : (ℕ → List ℕ) → List ℕ → List ℕ
 slots f [] = []
 slots f (s ∷ ss) = f s ++ slots f ss
 
-module _ (l : Layout) (c : ℕ → ℕ) (n : ℕ) where
+module _ (size : ℕ) where
+  -- What an answer leaves in the slot, of size bytes, of a block with these bytes: the bytes, or zeros.
+  abbrev pub slotOf : Answer → List ℕ → List ℕ
+  slotOf (Refused fault) bytes = replicate size 0
+  slotOf Data bytes = bytes
+  slotOf Control bytes = bytes
+
+  -- The sector with an answer, of a block with these bytes.
+  abbrev pub answering : Answer → List ℕ → Sector
+  answering answer bytes = record { known = record { answer = answer }; slot = slotOf answer bytes }
+
+  -- The sector that is refused with a fault. It has no bytes.
+  abbrev pub refused : Fault → Sector
+  refused fault = answering (Refused fault) []
+
+module _ (t : Track) (c : ℕ → ℕ) (n : ℕ) where
   -- What the block at m answers after a data or a control mark: its answer if the EDC is right.
   unfoldable pub proved : Mark → Answer → ℕ → Answer
-  proved mark good m = cond (edcRight (l .mode) c mark (m + markCells (l .mode)) (l .size + 2)) good (Refused WrongEdc)
+  proved mark good m = cond (edcRight (t .layout .mode) c mark (m + markCells (t .layout .mode)) (t .layout .size + 2)) good (Refused WrongEdc)
 
   -- The answer of the block at m by itself. A data, control or open mark stands at m; an open mark's EDC is not looked at.
   unfoldable pub blockAnswer : ℕ → Answer
   blockAnswer m =
-      cond (stands (l .mode) c n marks.Open m) (Refused OpenMark)
-      (cond (stands (l .mode) c n marks.Control m) (proved marks.Control Control m) (proved marks.Data Data m))
+      cond (stands (t .layout .mode) c n marks.Open m) (Refused OpenMark)
+      (cond (stands (t .layout .mode) c n marks.Control m) (proved marks.Control Control m) (proved marks.Data Data m))
 
-  -- What an answer leaves in the slot: the block's bytes, or zeros.
-  unfoldable pub slotOf : Answer → ℕ → List ℕ
-  slotOf Data m = dataBytes c (m + markCells (l .mode)) (l .size)
-  slotOf Control m = dataBytes c (m + markCells (l .mode)) (l .size)
-  slotOf (Refused fault) m = replicate (l .size) 0
+  -- Its N data bytes.
+  unfoldable pub blockBytes : ℕ → List ℕ
+  blockBytes m = dataBytes c (m + markCells (t .layout .mode)) (t .layout .size)
 
-  -- What one accepted identifier answers, and leaves in the slot.
-  unfoldable pub identifierAnswer : Block → Answer
-  identifierAnswer Missing = Refused NoBlock
-  identifierAnswer (Beyond m) = Refused PastEnd
-  identifierAnswer (Within m) = blockAnswer m
+  -- What one accepted identifier makes of its sector.
+  unfoldable pub identifierRecord : Block → Sector
+  identifierRecord Missing = refused (t .layout .size) NoBlock
+  identifierRecord (Beyond m) = refused (t .layout .size) PastEnd
+  identifierRecord (Within m) = answering (t .layout .size) (blockAnswer m) (blockBytes m)
 
-  unfoldable pub identifierSlot : Block → List ℕ
-  identifierSlot Missing = replicate (l .size) 0
-  identifierSlot (Beyond m) = replicate (l .size) 0
-  identifierSlot (Within m) = slotOf (blockAnswer m) m
+  -- What a sector is, by what its accepted identifiers gave.
+  unfoldable pub recordFor : List Block → Sector
+  recordFor [] = refused (t .layout .size) NoIdentifier
+  recordFor (b ∷ []) = identifierRecord b
+  recordFor (b ∷ x ∷ bs) = refused (t .layout .size) Doubled
 
-  -- What a sector answers, and leaves in its slot, by what its accepted identifiers gave.
-  unfoldable pub answer : List Block → Answer
-  answer [] = Refused NoIdentifier
-  answer (b ∷ []) = identifierAnswer b
-  answer (b ∷ x ∷ bs) = Refused Doubled
-
-  unfoldable pub slot : List Block → List ℕ
-  slot [] = replicate (l .size) 0
-  slot (b ∷ []) = identifierSlot b
-  slot (b ∷ x ∷ bs) = replicate (l .size) 0
-
-  -- The record of sector s. A sector past the layout's count is not there: it is refused with 21.
-  unfoldable pub recordOf : List Event → ℕ → Record
-  recordOf es s = record { answer = cond (leb s (l .sectors)) (answer (blocks s es)) (Refused NoIdentifier) }
+  -- Sector s, by what the walk met. One past the layout's count is not there: it is refused with 21.
+  unfoldable pub sectorOf : List Event → ℕ → Sector
+  sectorOf es s = cond (leb s (t .layout .sectors)) (recordFor (blocks s es)) (refused (t .layout .size) NoIdentifier)
 
   -- The records, by sector number.
   unfoldable pub recordsOf : List Event → List Record
-  recordsOf es = map (recordOf es) (numbers mostSectors 1)
+  recordsOf es = map (λ s. sectorOf es s .known) (numbers mostSectors 1)
 
   -- The area that is lent to the read: the slots of the sectors, one behind the other.
   unfoldable pub areaOf : List Event → List ℕ
-  areaOf es = slots (λ s. slot (blocks s es)) (numbers (l .sectors) 1)
+  areaOf es = slots (λ s. sectorOf es s .slot) (numbers (t .layout .sectors) 1)

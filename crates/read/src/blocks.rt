@@ -1,51 +1,52 @@
-// A sector's block: its bytes go into the slot as they are decoded, and into the register with them.
+// A sector's block: its bytes go into the slot as they are decoded, and into the register with them. Each function here is lent the sector's
+// slot, and answers the record that goes with what it leaves there.
 use super::Answer;
-use super::Block;
 use super::Fault;
-use super::rounds::mark_cells;
+use super::Record;
 use cells::Mode;
-use layouts::Layout;
+use layouts::Track;
 use marks::Mark;
+use walk::Block;
 ghost use mathlib.Core.Path.{_≡_};
-ghost use mathlib.Core.Bool.{cond};
-ghost use mathlib.Core.List.{_++_};
 ghost use Prim.Native.Nat.{_+_, _*_, _≤_};
 ghost use lib.ListN.{length, replicate};
-ghost use Rattle.cells.specs.Cells.{cell, dataBytes};
-ghost use Rattle.edc.specs.Register.{edcOf};
-ghost use Rattle.marks.specs.Marks.{covered};
+ghost use Rattle.cells.specs.Cells.{cell};
 ghost use Rattle.marks.specs.Outcomes.{Housed};
-ghost use Rattle.read.specs.Walk.{edcRight};
-ghost use Rattle.read.specs.Answers.{blockAnswer, slotOf, identifierAnswer, identifierSlot};
-ghost use Rattle.read.specs.Turns.{Modest, Claimed, unmet, nextAnswer, nextSlot};
-ghost use Rattle.read.specs.declared.Fault.the-variants.{WrongEdc};
+ghost use Rattle.walk.specs.Turns.{Placed};
+ghost use Rattle.read.specs.Answers.{identifierRecord};
+ghost use Rattle.read.specs.Turns.{Modest, Gives, Decodes, Checks, blockSector, unmet, next};
 ghost use Rattle.read.specs.declared.Answer.the-variants.{Refused};
 
-// Fills the area with zeros.
-pub(crate) fn clear(area: &mut [u8])
-    ensures { λ _. ⌜ now (area .exit) ≡ replicate (length (now (area .entry))) 0 ⌝ }
-{
-    let mut done = 0;
-    while done < area.len() {
-        area[done] = 0;
-        done += 1;
-    }
+// What decoding a block says besides its bytes: the register once the mark, the bytes and the two behind them have entered it.
+struct Decoded {
+    register: u16,
 }
 
-// Fills the slot with the data bytes from `place` on. The answer is the register once the mark, these bytes and the two behind them have
-// entered it.
-fn fill(mode: Mode, mark: Mark, image: &[u8], place: usize, slot: &mut [u8]) -> u16
+// Fills the slot with the data bytes from `place` on.
+fn decode(mode: Mode, mark: Mark, image: &[u8], place: usize, slot: &mut [u8]) -> Decoded
     requires { ⌜ place + 16 * length (now slot) ≤ 4294967296 ⌝ }
-    ensures { λ r. ⌜ (now (slot .exit) ≡ dataBytes (cell (now (image .entry))) place (length (now (slot .entry)))) × (r ≡ edcOf (covered mode mark ++ dataBytes (cell (now (image .entry))) place (length (now (slot .entry)) + 2))) ⌝ }
+    ensures { λ r. ⌜ Decodes mode mark (cell (now (image .entry))) place (length (now (slot .entry))) (r .register) (now (slot .exit)) ⌝ }
 {
     cells::data_bytes(image, place, slot);
     let end = place + 16 * slot.len();
     let register = edc::bytes_entered(marks::register_after(mode, mark), slot);
     let high = edc::byte_entered(register, cells::data_byte(image, end));
-    edc::byte_entered(high, cells::data_byte(image, end + 16))
+    Decoded {
+        register: edc::byte_entered(high, cells::data_byte(image, end + 16)),
+    }
 }
 
-// What the block at `place` answers after a data or a control mark: `good` if its EDC is right. Else its bytes are taken back.
+// A refused sector: its slot is all zero.
+fn refused(fault: Fault, slot: &mut [u8]) -> Record
+    ensures { λ r. ⌜ (r ≡ record { answer = Refused fault }) × (now (slot .exit) ≡ replicate (length (now (slot .entry))) 0) ⌝ }
+{
+    cells::clear(slot);
+    Record {
+        answer: Answer::Refused(fault),
+    }
+}
+
+// The block whose bytes begin at `place`, after a data or a control mark: `good` if its EDC is right. Else its bytes are taken back.
 fn checked(
     mode: Mode,
     mark: Mark,
@@ -53,59 +54,51 @@ fn checked(
     image: &[u8],
     place: usize,
     slot: &mut [u8],
-) -> Answer
+) -> Record
     requires { ⌜ place + 16 * length (now slot) ≤ 4294967296 ⌝ }
-    ensures { λ r. ⌜ (r ≡ cond (edcRight mode (cell (now (image .entry))) mark place (length (now (slot .entry)) + 2)) good (Refused WrongEdc)) × (now (slot .exit) ≡ cond (edcRight mode (cell (now (image .entry))) mark place (length (now (slot .entry)) + 2)) (dataBytes (cell (now (image .entry))) place (length (now (slot .entry)))) (replicate (length (now (slot .entry))) 0)) ⌝ }
+    ensures { λ r. ⌜ Checks mode mark good (cell (now (image .entry))) place (length (now (slot .entry))) r (now (slot .exit)) ⌝ }
 {
-    if fill(mode, mark, image, place, slot) != 0 {
-        clear(slot);
-        return Answer::Refused(Fault::WrongEdc);
+    let decoded = decode(mode, mark, image, place, slot);
+    if decoded.register != 0 {
+        return refused(Fault::WrongEdc, slot);
     }
-    good
+    Record { answer: good }
 }
 
 // The block whose mark begins at `place`, by itself.
-fn block_answer(layout: Layout, image: &[u8], place: usize, slot: &mut [u8]) -> Answer
-    requires { ⌜ Housed (now image) × Modest layout × (length (now slot) ≡ layout .size) × (place ≤ 2147483648) ⌝ }
-    ensures { λ r. ⌜ (r ≡ blockAnswer layout (cell (now (image .entry))) (8 * length (now (image .entry))) place) × (now (slot .exit) ≡ slotOf layout (cell (now (image .entry))) (8 * length (now (image .entry))) r place) ⌝ }
+fn block_record(track: Track, image: &[u8], place: usize, slot: &mut [u8]) -> Record
+    requires { ⌜ Housed (now image) × Modest (track .layout) × (length (now slot) ≡ track .layout .size) × (place ≤ 2147483648) ⌝ }
+    ensures { λ r. ⌜ Gives (blockSector track (cell (now (image .entry))) (8 * length (now (image .entry))) place) r (now (slot .exit)) ⌝ }
 {
+    let layout = track.layout;
     let mode = layout.mode;
     if marks::stands(mode, Mark::Open, image, place) {
-        clear(slot);
-        return Answer::Refused(Fault::OpenMark);
+        return refused(Fault::OpenMark, slot);
     }
-    let bytes = place + mark_cells(mode);
+    let bytes = place + 16 * marks::mark_bytes(mode);
     if marks::stands(mode, Mark::Control, image, place) {
         return checked(mode, Mark::Control, Answer::Control, image, bytes, slot);
     }
     checked(mode, Mark::Data, Answer::Data, image, bytes, slot)
 }
 
-// What an accepted identifier answers, where it is the sector's first.
-fn first_answer(layout: Layout, image: &[u8], block: Block, slot: &mut [u8]) -> Answer
-    requires { ⌜ Housed (now image) × Modest layout × (length (now slot) ≡ layout .size) × Claimed block ⌝ }
-    ensures { λ r. ⌜ (r ≡ identifierAnswer layout (cell (now (image .entry))) (8 * length (now (image .entry))) block) × (now (slot .exit) ≡ identifierSlot layout (cell (now (image .entry))) (8 * length (now (image .entry))) block) ⌝ }
+// What an accepted identifier makes of its sector, where it is the first.
+fn identifier_record(track: Track, image: &[u8], block: Block, slot: &mut [u8]) -> Record
+    requires { ⌜ Housed (now image) × Modest (track .layout) × (length (now slot) ≡ track .layout .size) × Placed block ⌝ }
+    ensures { λ r. ⌜ Gives (identifierRecord track (cell (now (image .entry))) (8 * length (now (image .entry))) block) r (now (slot .exit)) ⌝ }
 {
     match block {
-        Block::Missing => {
-            clear(slot);
-            Answer::Refused(Fault::NoBlock)
-        }
-        Block::Beyond(_) => {
-            clear(slot);
-            Answer::Refused(Fault::PastEnd)
-        }
-        Block::Within(place) => block_answer(layout, image, place, slot),
+        Block::Missing => refused(Fault::NoBlock, slot),
+        Block::Beyond(_) => refused(Fault::PastEnd, slot),
+        Block::Within(place) => block_record(track, image, place, slot),
     }
 }
 
 // Whether no identifier of the sector has been accepted.
-pub(crate) fn is_unmet(answer: Answer) -> bool
+fn is_unmet(answer: Answer) -> bool
     ensures { λ r. ⌜ r ≡ unmet answer ⌝ }
 {
     match answer {
-        Answer::Data => false,
-        Answer::Control => false,
         Answer::Refused(fault) => match fault {
             Fault::NoIdentifier => true,
             Fault::Doubled => false,
@@ -114,23 +107,25 @@ pub(crate) fn is_unmet(answer: Answer) -> bool
             Fault::OpenMark => false,
             Fault::WrongEdc => false,
         },
+        Answer::Data => false,
+        Answer::Control => false,
     }
 }
 
-// What a sector answers that answered `before`, once one more of its identifiers was accepted.
-pub(crate) fn next_answer(
-    layout: Layout,
+// What a sector is that had the record `before`, once one more of its identifiers was accepted.
+pub(crate) fn next_record(
+    track: Track,
     image: &[u8],
-    before: Answer,
+    before: Record,
     block: Block,
     slot: &mut [u8],
-) -> Answer
-    requires { ⌜ Housed (now image) × Modest layout × (length (now slot) ≡ layout .size) × Claimed block ⌝ }
-    ensures { λ r. ⌜ (r ≡ nextAnswer layout (cell (now (image .entry))) (8 * length (now (image .entry))) before block) × (now (slot .exit) ≡ nextSlot layout (cell (now (image .entry))) (8 * length (now (image .entry))) before block) ⌝ }
+) -> Record
+    requires { ⌜ Housed (now image) × Modest (track .layout) × (length (now slot) ≡ track .layout .size) × Placed block ⌝ }
+    ensures { λ r. ⌜ Gives (next track (cell (now (image .entry))) (8 * length (now (image .entry))) before block) r (now (slot .exit)) ⌝ }
 {
-    if is_unmet(before) {
-        return first_answer(layout, image, block, slot);
+    let answer = before.answer;
+    if is_unmet(answer) {
+        return identifier_record(track, image, block, slot);
     }
-    clear(slot);
-    Answer::Refused(Fault::Doubled)
+    refused(Fault::Doubled, slot)
 }

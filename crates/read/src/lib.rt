@@ -1,45 +1,15 @@
 // The reader: what a track's image holds, sector by sector. What can't be read is reported.
 use layouts::Checked;
-use layouts::Chosen;
+use layouts::MOST_SECTORS;
 use layouts::Refusal;
 ghost use lib.ListN.{length};
-ghost use Rattle.read.specs.Outcomes.{IsFaultNumber, IsAnswerNumber, Reads, Locates};
-ghost use Rattle.read.specs.Picks.{IsPicked, IsStretch};
+ghost use Rattle.read.specs.Outcomes.{IsFaultNumber, IsAnswerNumber, IsAnswerOf, Reads};
+ghost use Rattle.read.specs.Picks.{IsChosen, IsPicked, IsStretch};
 
 mod blocks;
-mod head;
 mod picks;
-mod rounds;
-mod tests;
+mod refusals;
 mod tracks;
-
-// What an accepted identifier gave. A place is the cell at which a block's mark begins.
-pub enum Block {
-    // no data block
-    Missing,
-    // a block that passes the end of the image
-    Beyond(usize),
-    // a block within the image
-    Within(usize),
-}
-
-// What the walk meets.
-pub enum Event {
-    // an identifier whose EDC is wrong
-    Bad,
-    // an identifier of another track
-    Foreign,
-    // an identifier of this track: its sector number, and what it gave
-    Accepted(usize, Block),
-}
-
-// What one round of the walk gives.
-pub enum Round {
-    // the walk ends
-    Ends,
-    // it meets something, and goes on at a cell
-    Meets(Event, usize),
-}
 
 // Why a sector is refused, in the order of the papers' numbers 21 to 26.
 pub enum Fault {
@@ -57,14 +27,14 @@ pub enum Fault {
     WrongEdc,
 }
 
-// What a sector answers.
+// What a sector answers. (Refused stands first: what the logic reads past an array's end is each enum's first case.)
 pub enum Answer {
+    // the slot is all zero
+    Refused(Fault),
     // data mark, EDC right; the slot holds the bytes
     Data,
     // control mark, EDC right; the slot holds the bytes
     Control,
-    // the slot is all zero
-    Refused(Fault),
 }
 
 // What is known of one sector.
@@ -75,7 +45,7 @@ pub struct Record {
 // The records of a track.
 pub struct Records {
     // by sector number, from 1 on
-    pub list: [Record; 26],
+    pub list: [Record; MOST_SECTORS],
 }
 
 // What a read hands back.
@@ -89,16 +59,6 @@ pub struct Reading {
     pub bad: u32,
     // the identifiers of other tracks
     pub foreign: u32,
-}
-
-// Where a sector's block is.
-pub enum Located {
-    // the cell at which the block's mark begins
-    At(usize),
-    // reading answers this for the sector: one of 21 to 24
-    Unread(Fault),
-    // the call is refused
-    Refused(Refusal),
 }
 
 // What a pick from two passes takes, with the record that goes with it.
@@ -132,9 +92,25 @@ pub fn answer_number(answer: Answer) -> u8
     ensures { λ r. ⌜ IsAnswerNumber answer r ⌝ }
 {
     match answer {
+        Answer::Refused(fault) => fault_number(fault),
         Answer::Data => 1,
         Answer::Control => 2,
-        Answer::Refused(fault) => fault_number(fault),
+    }
+}
+
+// The answer that has a number; a number that is no answer's counts as 21.
+pub fn answer_of(number: u32) -> Answer
+    ensures { λ r. ⌜ IsAnswerOf number r ⌝ }
+{
+    match number {
+        1 => Answer::Data,
+        2 => Answer::Control,
+        22 => Answer::Refused(Fault::Doubled),
+        23 => Answer::Refused(Fault::NoBlock),
+        24 => Answer::Refused(Fault::PastEnd),
+        25 => Answer::Refused(Fault::OpenMark),
+        26 => Answer::Refused(Fault::WrongEdc),
+        _ => Answer::Refused(Fault::NoIdentifier),
     }
 }
 
@@ -143,45 +119,48 @@ pub fn answer_number(answer: Answer) -> u8
 pub fn read(layout: u32, cylinder: u32, side: u32, image: &[u8], area: &mut [u8]) -> Reading
     ensures { λ r. ⌜ Reads layout cylinder side (now (image .entry)) (length (now (area .entry))) r (now (area .exit)) ⌝ }
 {
-    let chosen = tests::read_tested(layout, cylinder, side, image.len(), area.len());
-    blocks::clear(area);
-    match chosen {
-        Chosen::Refused(refusal) => {
+    let tested = refusals::read_tested(layout, cylinder, side, image.len(), area.len());
+    cells::clear(area);
+    match tested {
+        Checked::Refused(refusal) => {
             let unread = Record {
                 answer: Answer::Refused(Fault::NoIdentifier),
             };
             Reading {
                 verdict: Checked::Refused(refusal),
                 sectors: 0,
-                records: Records { list: [unread; 26] },
+                records: Records {
+                    list: [unread; MOST_SECTORS],
+                },
                 bad: 0,
                 foreign: 0,
             }
         }
-        Chosen::Taken(taken) => {
-            tracks::read_track(taken, cylinder as u8, side as u8, image, area)
+        Checked::Passed => {
+            tracks::read_track(layouts::track_of(layout, cylinder, side), image, area)
         }
     }
 }
 
-// Where the block of a sector is: the cell at which its mark begins, or which of 21 to 24 reading answers for the sector.
-pub fn locate(layout: u32, cylinder: u32, side: u32, sector: u32, image: &[u8]) -> Located
-    ensures { λ r. ⌜ Locates layout cylinder side sector (now (image .entry)) r ⌝ }
+// Which of two passes over a track answered for a sector, the first before the second, by the record that each has of it. Of the areas that go
+// with the records the lengths are tested.
+pub fn choose(
+    layout: u32,
+    sector: u32,
+    first_length: usize,
+    second_length: usize,
+    one: Record,
+    two: Record,
+) -> Choice
+    ensures { λ r. ⌜ IsChosen layout sector «first_length» «second_length» one two r ⌝ }
 {
-    match tests::locate_tested(layout, cylinder, side, image.len(), sector) {
-        Chosen::Refused(refusal) => Located::Refused(refusal),
-        Chosen::Taken(taken) => tracks::locate_block(
-            taken,
-            cylinder as u8,
-            side as u8,
-            sector as usize,
-            image,
-        ),
+    match refusals::pick_tested(layout, sector, first_length, second_length) {
+        Checked::Refused(refusal) => Choice::Refused(refusal),
+        Checked::Passed => picks::chosen_pass(one, two),
     }
 }
 
-// Which of two passes over a track answered for a sector, the first before the second. Each pass is an area that `read` has filled, with its
-// records.
+// The same, by all the records. Each pass is an area that `read` has filled, with its records.
 pub fn picked(
     layout: u32,
     sector: u32,
@@ -192,9 +171,9 @@ pub fn picked(
 ) -> Choice
     ensures { λ r. ⌜ IsPicked layout sector (now (first .entry)) «first_records» (now (second .entry)) «second_records» r ⌝ }
 {
-    match picks::tested(layout, sector, first.len(), second.len()) {
-        Chosen::Refused(refusal) => Choice::Refused(refusal),
-        Chosen::Taken(_) => picks::chosen_pass(
+    match refusals::pick_tested(layout, sector, first.len(), second.len()) {
+        Checked::Refused(refusal) => Choice::Refused(refusal),
+        Checked::Passed => picks::chosen_pass(
             picks::record_at(first_records, sector),
             picks::record_at(second_records, sector),
         ),
@@ -212,12 +191,13 @@ pub fn pick<'a>(
 ) -> &'a [u8]
     ensures { λ r. ⌜ IsStretch layout sector (now (first .entry)) «first_records» (now (second .entry)) «second_records» (now r) ⌝ }
 {
-    let Chosen::Taken(taken) = picks::tested(layout, sector, first.len(), second.len()) else {
+    let tested = refusals::pick_tested(layout, sector, first.len(), second.len());
+    let Checked::Passed = tested else {
         return &first[0..0];
     };
     let picked = picks::chosen_pass(
         picks::record_at(first_records, sector),
         picks::record_at(second_records, sector),
     );
-    picks::stretch(taken, sector, first, second, picked)
+    picks::stretch(layouts::layout_of(layout), sector, first, second, picked)
 }

@@ -1,73 +1,62 @@
-// The walk over a whole track: the reader's, which keeps every sector's record and slot, and the one that looks for a single block.
+// The reader's walk over a whole track, which keeps every sector's record and slot.
 use super::Answer;
-use super::Block;
-use super::Event;
 use super::Fault;
-use super::Located;
 use super::Reading;
 use super::Record;
 use super::Records;
-use super::Round;
-use super::blocks::is_unmet;
-use super::blocks::next_answer;
-use super::rounds::next_round;
+use super::blocks::next_record;
 use layouts::Checked;
-use layouts::Layout;
+use layouts::MOST_SECTORS;
+use layouts::Track;
+use walk::Block;
+use walk::Event;
+use walk::Round;
 ghost use mathlib.Core.Path.{_≡_};
-ghost use Prim.Native.Nat.{_+_, _-_, _*_, _≤_};
-ghost use lib.ListN.{length, replicate, set, getD};
-ghost use lib.Seq.{sets};
+ghost use Prim.Native.Nat.{_*_, _≤_};
+ghost use lib.ListN.{length, replicate};
 ghost use Rattle.cells.specs.Cells.{cell};
-ghost use Rattle.layouts.specs.declared.Checked.the-variants.{Passed};
 ghost use Rattle.marks.specs.Outcomes.{Housed};
-ghost use Rattle.read.specs.Walk.{events};
-ghost use Rattle.read.specs.Answers.{bads, foreigns, blocks, recordsOf, areaOf};
-ghost use Rattle.read.specs.Turns.{Modest, Claimed, blank, nextAnswer, nextSlot, firstPlace, nextPlace, placeAfter};
-ghost use Rattle.read.specs.Outcomes.{reading, place};
+ghost use Rattle.walk.specs.Outcomes.{met};
+ghost use Rattle.walk.specs.Turns.{Placed};
+ghost use Rattle.read.specs.Answers.{areaOf};
+ghost use Rattle.read.specs.Turns.{Modest, Enters, next};
+ghost use Rattle.read.specs.Outcomes.{reading};
 
 // A sector's record, and its slot in the area, once one more of its identifiers was accepted.
 fn enter(
-    layout: Layout,
+    track: Track,
     image: &[u8],
-    records: Records,
+    before: Record,
     sector: usize,
     block: Block,
     area: &mut [u8],
-) -> Records
-    requires { ⌜ Housed (now image) × Modest layout × (1 ≤ sector) × (sector ≤ layout .sectors) × Claimed block × (length (now area) ≡ layout .sectors * layout .size) ⌝ }
-    ensures { λ r. ⌜ (r .list ≡ set (records .list) (sector - 1) (record { answer = nextAnswer layout (cell (now (image .entry))) (8 * length (now (image .entry))) (getD (records .list) (sector - 1) blank .answer) block })) × (now (area .exit) ≡ sets (now (area .entry)) ((sector - 1) * layout .size) (nextSlot layout (cell (now (image .entry))) (8 * length (now (image .entry))) (getD (records .list) (sector - 1) blank .answer) block)) ⌝ }
+) -> Record
+    requires { ⌜ Housed (now image) × Modest (track .layout) × (1 ≤ sector) × (sector ≤ track .layout .sectors) × Placed block × (length (now area) ≡ track .layout .sectors * track .layout .size) ⌝ }
+    ensures { λ r. ⌜ Enters (next track (cell (now (image .entry))) (8 * length (now (image .entry))) before block) (track .layout .size) sector (now (area .entry)) r (now (area .exit)) ⌝ }
 {
-    let record = records.list[sector - 1];
-    let before = record.answer;
+    let layout = track.layout;
     let start = (sector - 1) * layout.size;
     let end = start + layout.size;
-    let answer = next_answer(layout, image, before, block, &mut area[start..end]);
-    let mut next = records;
-    next.list[sector - 1] = Record { answer };
-    next
+    next_record(track, image, before, block, &mut area[start..end])
 }
 
-// The reader's walk over a track that has passed the tests. The area comes in all zero.
-pub(crate) fn read_track(
-    layout: Layout,
-    cylinder: u8,
-    side: u8,
-    image: &[u8],
-    area: &mut [u8],
-) -> Reading
-    requires { ⌜ Housed (now image) × Modest layout × (now area ≡ replicate (layout .sectors * layout .size) 0) ⌝ }
-    ensures { λ r. ⌜ (r ≡ reading Passed (layout .sectors) (recordsOf layout (cell (now (image .entry))) (8 * length (now (image .entry))) (events layout cylinder side (cell (now (image .entry))) (8 * length (now (image .entry))))) (bads (events layout cylinder side (cell (now (image .entry))) (8 * length (now (image .entry))))) (foreigns (events layout cylinder side (cell (now (image .entry))) (8 * length (now (image .entry)))))) × (now (area .exit) ≡ areaOf layout (cell (now (image .entry))) (8 * length (now (image .entry))) (events layout cylinder side (cell (now (image .entry))) (8 * length (now (image .entry))))) ⌝ }
+// The walk, on a track that has passed the tests. The area comes in all zero.
+pub(crate) fn read_track(track: Track, image: &[u8], area: &mut [u8]) -> Reading
+    requires { ⌜ Housed (now image) × Modest (track .layout) × (now area ≡ replicate (track .layout .sectors * track .layout .size) 0) ⌝ }
+    ensures { λ r. ⌜ (r ≡ reading track (now (image .entry))) × (now (area .exit) ≡ areaOf track (cell (now (image .entry))) (8 * length (now (image .entry))) (met track (now (image .entry)))) ⌝ }
 {
     let unread = Record {
         answer: Answer::Refused(Fault::NoIdentifier),
     };
-    let mut records = Records { list: [unread; 26] };
+    let mut records = Records {
+        list: [unread; MOST_SECTORS],
+    };
     let mut bad: u32 = 0;
     let mut foreign: u32 = 0;
     let mut place = 0;
     let end = 8 * image.len();
     while place < end {
-        let round = next_round(layout, cylinder, side, image, place);
+        let round = walk::next_round(track, image, place);
         match round {
             Round::Ends => {
                 place = end;
@@ -81,13 +70,16 @@ pub(crate) fn read_track(
                         foreign += 1;
                     }
                     Event::Accepted(sector, block) => {
-                        records = enter(layout, image, records, sector, block, area);
+                        let before = records.list[sector - 1];
+                        let after = enter(track, image, before, sector, block, area);
+                        records.list[sector - 1] = after;
                     }
                 }
                 place = next;
             }
         }
     }
+    let layout = track.layout;
     Reading {
         verdict: Checked::Passed,
         sectors: layout.sectors,
@@ -95,76 +87,4 @@ pub(crate) fn read_track(
         bad,
         foreign,
     }
-}
-
-// Where the block is that a sector's first identifier claims.
-fn first_place(block: Block) -> Located
-    ensures { λ r. ⌜ r ≡ firstPlace block ⌝ }
-{
-    match block {
-        Block::Missing => Located::Unread(Fault::NoBlock),
-        Block::Beyond(_) => Located::Unread(Fault::PastEnd),
-        Block::Within(place) => Located::At(place),
-    }
-}
-
-// Where the sector's block is, once one more of its identifiers was accepted.
-fn next_place(before: Located, block: Block) -> Located
-    ensures { λ r. ⌜ r ≡ nextPlace before block ⌝ }
-{
-    match before {
-        Located::At(_) => Located::Unread(Fault::Doubled),
-        Located::Refused(_) => Located::Unread(Fault::Doubled),
-        Located::Unread(fault) => {
-            if is_unmet(Answer::Refused(fault)) {
-                return first_place(block);
-            }
-            Located::Unread(Fault::Doubled)
-        }
-    }
-}
-
-// The same, once the walk has met an event more.
-fn place_after(sector: usize, before: Located, event: Event) -> Located
-    ensures { λ r. ⌜ r ≡ placeAfter sector before event ⌝ }
-{
-    match event {
-        Event::Bad => before,
-        Event::Foreign => before,
-        Event::Accepted(number, block) => {
-            if number == sector {
-                return next_place(before, block);
-            }
-            before
-        }
-    }
-}
-
-// The walk that looks for the block of one sector, on a track that has passed the tests.
-pub(crate) fn locate_block(
-    layout: Layout,
-    cylinder: u8,
-    side: u8,
-    sector: usize,
-    image: &[u8],
-) -> Located
-    requires { ⌜ Housed (now image) × Modest layout ⌝ }
-    ensures { λ r. ⌜ r ≡ place (blocks sector (events layout cylinder side (cell (now (image .entry))) (8 * length (now (image .entry))))) ⌝ }
-{
-    let mut located = Located::Unread(Fault::NoIdentifier);
-    let mut at = 0;
-    let end = 8 * image.len();
-    while at < end {
-        let round = next_round(layout, cylinder, side, image, at);
-        match round {
-            Round::Ends => {
-                at = end;
-            }
-            Round::Meets(event, next) => {
-                located = place_after(sector, located, event);
-                at = next;
-            }
-        }
-    }
-    located
 }

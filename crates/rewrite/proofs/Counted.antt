@@ -1,32 +1,27 @@
--- Laws of the small functions: the number of stores, and what an arm of the code knows of the mode and the mark.
+-- Laws of the small functions: the number of stores, the byte after the block, and how large a sector of a layout is.
 use mathlib.Core.Path.{_≡_, _∙_}
 use mathlib.Core.Bool.{Bool, true, false, cond}
 use Prim.Native.Nat.{ℕ, _+_, _-_, _*_, _/_, _%_, _≤_}
 use native.Mathlib.Omega.{arith}
 use borrow.Author.Tests.{eq-eqb, ne-eqb}
 use lib.Dec.{lit≤}
-use lib.ListN.{getD}
-use Rattle.cells.specs.declared.Mode.{Mode}
-use Rattle.cells.specs.declared.Mode.the-variants.{Fm, Mfm}
-use Rattle.layouts.specs.Layouts.{highest, layoutOf, markBytes}
+use Rattle.layouts.specs.Layouts.{layoutOf}
 use Rattle.layouts.specs.declared.Layout.{Layout}
-use Rattle.layouts.proofs.Layouts.{layout-known}
-use Rattle.marks.specs.Marks.{string}
-use Rattle.marks.specs.declared.Mark.{Mark}
-use Rattle.read.specs.Walk.{markCells, blockCells}
-use Rattle.rewrite.specs.Stores.{markLast, blockEnd, follows, lastByte, joined, storeCount}
+use Rattle.layouts.proofs.Layouts.{every-layout}
+use Rattle.rewrite.specs.Stores.{blockEnd, follows, joined, storeCount}
 
--- A sector of every layout is small.
-pub size-small : (n : ℕ) → n ≤ highest → layoutOf n .size ≤ 65535
-size-small = layout-known (λ l. l .size ≤ 65535) (lit≤ tt) (lit≤ tt) (lit≤ tt) (lit≤ tt)
+-- A sector of every layout has a first byte, and is small.
+pub size-some : (n : ℕ) → 1 ≤ layoutOf n .size
+size-some = every-layout (λ l. 1 ≤ l .size) (lit≤ tt) (lit≤ tt) (lit≤ tt) (lit≤ tt)
 
--- The number of stores, as the code comes to it: m is the place of the mark's last byte in the mark, b whether the byte after is stored.
-pub count-by : (l : Layout) (place bytes m k : ℕ) (b : Bool) → m + 1 ≡ 2 * markBytes (l .mode)
-    → b ≡ follows (l .mode) (place / 8 + m + 1 + 2 * (l .size + 2)) bytes → k ≡ 2 * l .size + cond b 7 6 → k ≡ storeCount l place bytes
+pub size-small : (n : ℕ) → layoutOf n .size ≤ 65535
+size-small = every-layout (λ l. l .size ≤ 65535) (lit≤ tt) (lit≤ tt) (lit≤ tt) (lit≤ tt)
+
+-- The number of stores, as the code comes to it: by the byte after the block, and whether that is stored.
+pub count-by : (l : Layout) (place bytes end k : ℕ) (b : Bool) → end ≡ blockEnd l place → b ≡ follows (l .mode) end bytes
+    → k ≡ 2 * l .size + cond b 7 6 → k ≡ storeCount l place bytes
 unfolding storeCount
-count-by l place bytes m k b e f g =
-    let s : place / 8 + m + 1 + 2 * (l .size + 2) ≡ blockEnd l place = omega arith in
-    g ∙ rw (f, s)
+count-by l place bytes end k b e f g = g ∙ rw (f, e)
 
 pub count-most : (l : Layout) (place bytes : ℕ) → storeCount l place bytes ≤ 2 * l .size + 7
 unfolding storeCount
@@ -52,17 +47,3 @@ joined-zero bit byte e = rw (eq-eqb (byte / 64 % 2) 0 e)
 pub joined-one : (bit byte : ℕ) → (byte / 64 % 2 ≡ 0 → ⊥) → byte ≡ joined bit byte
 unfolding joined
 joined-one bit byte n = rw (ne-eqb (byte / 64 % 2) 0 n)
-
--- The last byte of a mark, by the mode and the mark that an arm of the code knows.
-pub last-by : {mode : Mode} {mark : Mark} (m : Mode) (k : Mark) (r : ℕ) → mode ≡ m → mark ≡ k → r ≡ getD (string m k) (markLast m) 0
-    → r ≡ lastByte mode mark
-unfolding lastByte
-last-by m k r e f g = rw (e, f) g
-
--- The cells of a block are few.
-pub cells-most : (l : Layout) → blockCells l ≤ 16 * l .size + 96
-cells-most l = go (l .mode)
-  where
-    go : (mode : Mode) → markCells mode + 16 * (l .size + 2) ≤ 16 * l .size + 96
-    go Fm = omega arith
-    go Mfm = omega arith

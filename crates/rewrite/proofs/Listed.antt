@@ -12,13 +12,13 @@ use lib.Seq.{getD-append-add}
 use Rattle.cells.specs.declared.Mode.{Mode}
 use Rattle.cells.specs.declared.Mode.the-variants.{Fm, Mfm}
 use Rattle.edc.specs.Register.{edcBytes}
-use Rattle.layouts.specs.Layouts.{markBytes}
 use Rattle.layouts.specs.declared.Layout.{Layout}
-use Rattle.marks.specs.Marks.{markByte}
+use Rattle.marks.specs.Marks.{markByte, markBytes, markLast, lastByte}
 use Rattle.marks.specs.declared.Mark.{Mark}
 use Rattle.marks.specs.declared.Mark.the-variants.{Open}
-use Rattle.marks.proofs.Searching.{le-or-lt}
-use Rattle.rewrite.specs.Stores.{none, markLast, markEnd, fieldStart, blockEnd, follows, lastByte, joined, storing, newEdc, field, stores, storeCount}
+use Rattle.search.proofs.Searching.{le-or-lt}
+use Rattle.verdicts.proofs.Tests.{clash}
+use Rattle.rewrite.specs.Stores.{noStore, markEnd, fieldStart, blockEnd, follows, joined, storing, newEdc, field, stores, storeCount}
 use Rattle.rewrite.specs.declared.Store.{Store}
 use Rattle.rewrite.proofs.Coded.{length-coding, length-storing, storing-at}
 
@@ -29,7 +29,7 @@ mark-last Mfm = refl
 
 -- A byte is stored behind the block in MFM only, and it is one of the image.
 pub follows-true : (mode : Mode) (end bytes : ℕ) → follows mode end bytes ≡ true → (mode ≡ Mfm) × (end < bytes)
-follows-true Fm end bytes e = let z : _≡_ {A = ℕ} 0 1 = cc in absurd (omega arith)
+follows-true Fm end bytes e = absurd (clash cc)
 follows-true Mfm end bytes e = (refl, ltb-true end bytes e)
 
 module _ (l : Layout) (image : List ℕ) (place : ℕ) (mark : Mark) (contents : List ℕ) where
@@ -39,15 +39,15 @@ module _ (l : Layout) (image : List ℕ) (place : ℕ) (mark : Mark) (contents :
 
   -- The store of each kind.
   abbrev pub opening : Store
-  opening = record { place = markEnd l place; value = lastByte (l .mode) Open }
+  opening = record { byte = markEnd l place; value = lastByte (l .mode) Open }
 
   abbrev pub closing : Store
-  closing = record { place = markEnd l place; value = lastByte (l .mode) mark }
+  closing = record { byte = markEnd l place; value = lastByte (l .mode) mark }
 
   abbrev pub joining : Store
   joining =
       record {
-        place = blockEnd l place;
+        byte = blockEnd l place;
         value = joined (newEdc (l .mode) mark contents % 2) (getD image (blockEnd l place) 0);
       }
 
@@ -56,10 +56,10 @@ module _ (l : Layout) (image : List ℕ) (place : ℕ) (mark : Mark) (contents :
   ending b = cond b (joining ∷ []) [] ++ (closing ∷ [])
 
   abbrev pub coded : ℕ → Store
-  coded j = record { place = fieldStart l place + j; value = getD (field (l .mode) mark contents) j 0 }
+  coded j = record { byte = fieldStart l place + j; value = getD (field (l .mode) mark contents) j 0 }
 
   module _ (whole : length contents ≡ l .size) where
-    pub length-field : length (field (l .mode) mark contents) ≡ 2 * (l .size + 2)
+    length-field : length (field (l .mode) mark contents) ≡ 2 * (l .size + 2)
     length-field =
         length-coding (l .mode) (markByte mark) (contents ++ edcBytes (newEdc (l .mode) mark contents))
         ∙ rw (length-append contents (edcBytes (newEdc (l .mode) mark contents)), whole)
@@ -81,30 +81,30 @@ module _ (l : Layout) (image : List ℕ) (place : ℕ) (mark : Mark) (contents :
 
     -- ---- store number k
 
-    pub store-open : getD (stores l image place mark contents) 0 none ≡ opening
+    pub store-open : getD (stores l image place mark contents) 0 noStore ≡ opening
     unfolding stores
     store-open = refl
 
-    pub store-coded : (j : ℕ) → j < 2 * (l .size + 2) → getD (stores l image place mark contents) (suc j) none ≡ coded j
+    pub store-coded : (j : ℕ) → j < 2 * (l .size + 2) → getD (stores l image place mark contents) (suc j) noStore ≡ coded j
     unfolding stores
     store-coded j h =
-        List·getD-append run _ none j (omega (arith, length-run))
+        List·getD-append run _ noStore j (omega (arith, length-run))
         ∙ storing-at (fieldStart l place) (field (l .mode) mark contents) j (omega (arith, length-field))
 
-    behind : (i : ℕ) → getD (stores l image place mark contents) (2 * l .size + 5 + i) none ≡ getD (ending followed) i none
+    behind : (i : ℕ) → getD (stores l image place mark contents) (2 * l .size + 5 + i) noStore ≡ getD (ending followed) i noStore
     unfolding stores
     behind i =
         let e : 2 * l .size + 5 + i ≡ suc (length run + i) = omega (arith, length-run) in
-        rw e (getD-append-add run (ending followed) i none)
+        rw e (getD-append-add run (ending followed) i noStore)
 
-    pub store-joined : followed ≡ true → getD (stores l image place mark contents) (2 * l .size + 5) none ≡ joining
+    pub store-joined : followed ≡ true → getD (stores l image place mark contents) (2 * l .size + 5) noStore ≡ joining
     store-joined e = (rw add-zero at (behind 0)) ∙ rw e
 
-    pub store-closed : (k : ℕ) → suc k ≡ storeCount l place (length image) → getD (stores l image place mark contents) k none ≡ closing
+    pub store-closed : (k : ℕ) → suc k ≡ storeCount l place (length image) → getD (stores l image place mark contents) k noStore ≡ closing
     unfolding storeCount
     store-closed k h = go followed refl h
       where
-        go : (b : Bool) → followed ≡ b → suc k ≡ 2 * l .size + cond b 7 6 → getD (stores l image place mark contents) k none ≡ closing
+        go : (b : Bool) → followed ≡ b → suc k ≡ 2 * l .size + cond b 7 6 → getD (stores l image place mark contents) k noStore ≡ closing
         go true e f =
             let g : k ≡ 2 * l .size + 5 + 1 = omega arith in
             rw g (behind 1 ∙ rw e)
@@ -122,18 +122,18 @@ module _ (l : Layout) (image : List ℕ) (place : ℕ) (mark : Mark) (contents :
   module _ (whole : length contents ≡ l .size) where
     -- behind the coded bytes
     late : (b : Bool) (k : ℕ) → followed ≡ b → 2 * l .size + 5 ≤ k → k < 2 * l .size + cond b 7 6
-        → Kind k (getD (stores l image place mark contents) k none)
+        → Kind k (getD (stores l image place mark contents) k noStore)
     unfolding storeCount
     late false k e h u = let s : suc k ≡ 2 * l .size + cond followed 7 6 = rw e (omega arith) in rw (store-closed whole k s) (closes s)
     late true k e h u = ⊎-elim after next (le-or-lt (2 * l .size + 6) k)
       where
-        after : 2 * l .size + 6 ≤ k → Kind k (getD (stores l image place mark contents) k none)
+        after : 2 * l .size + 6 ≤ k → Kind k (getD (stores l image place mark contents) k noStore)
         after p = let s : suc k ≡ 2 * l .size + cond followed 7 6 = rw e (omega arith) in rw (store-closed whole k s) (closes s)
 
-        next : k < 2 * l .size + 6 → Kind k (getD (stores l image place mark contents) k none)
+        next : k < 2 * l .size + 6 → Kind k (getD (stores l image place mark contents) k noStore)
         next p = let s : k ≡ 2 * l .size + 5 = omega arith in rw s (rw (store-joined whole e) (joins refl e))
 
-    pub kind : (k : ℕ) → k < storeCount l place (length image) → Kind k (getD (stores l image place mark contents) k none)
+    pub kind : (k : ℕ) → k < storeCount l place (length image) → Kind k (getD (stores l image place mark contents) k noStore)
     unfolding storeCount
     kind zero h = rw (store-open whole) (opens refl)
     kind (suc j) h =
@@ -142,9 +142,9 @@ module _ (l : Layout) (image : List ℕ) (place : ℕ) (mark : Mark) (contents :
 
   -- A store lies within the block, from its mark's last byte on, or is the byte after it; in any case the image has the byte.
   pub record Inside (store : Store) : Type 0 where
-    pub low : markEnd l place ≤ store .place
-    pub high : store .place ≤ blockEnd l place
-    pub within : store .place < length image
+    pub low : markEnd l place ≤ store .byte
+    pub high : store .byte ≤ blockEnd l place
+    pub within : store .byte < length image
 
   pub inside : blockEnd l place ≤ length image → (k : ℕ) (store : Store) → Kind k store → Inside store
   inside h k store (opens e) = omega (arith, mark-last (l .mode))

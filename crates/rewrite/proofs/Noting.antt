@@ -1,127 +1,116 @@
--- Laws of a request: what its tests say before and after the walk, and the plan or the refusal that a located block gives.
-use mathlib.Core.Path.{_≡_, sym, ap, _∙_}
+-- Laws of a request: the plan or the refusal that a located block gives, and what the tests before and after the walk say together.
+use mathlib.Core.Path.{_≡_, refl, sym, ap, _∙_}
 use mathlib.Core.Bool.{false}
-use mathlib.Core.List.{List, [], _∷_, _++_, append-assoc}
-use Prim.Native.Nat.{ℕ, _*_, _%_, _≤_, _<_}
+use mathlib.Core.List.{List, [], _∷_}
+use mathlib.Core.Logic.{⊎-elim}
+use Prim.Native.Nat.{ℕ, _*_, _%_, _<_}
 use native.Mathlib.Omega.{arith}
 use borrow.Author.Tests.{eq-eqb, ne-eqb}
-use lib.Dec.{lit≤}
 use lib.ListN.{length}
+use types.Run.{OneOf}
+use denote.Enum.Declared.{tagOf}
 use Rattle.cells.specs.Cells.{cell}
-use Rattle.layouts.specs.Layouts.{highest, layoutOf}
-use Rattle.layouts.specs.Refusals.{Test, refusal, taken, imageTest, sectorTest, trackTests, readingTests}
-use Rattle.layouts.specs.declared.Layout.{Layout}
+use Rattle.layouts.specs.Refusals.{told}
+use Rattle.layouts.specs.Tracks.{trackOf}
 use Rattle.layouts.specs.declared.Refusal.{Refusal}
 use Rattle.layouts.specs.declared.Refusal.the-variants.{Unreadable, OffBoundary}
+use Rattle.layouts.specs.declared.Checked.{Checked}
 use Rattle.layouts.specs.declared.Checked.the-variants.{Passed, Refused}
-use Rattle.layouts.specs.declared.Chosen.{Chosen}
-use Rattle.layouts.specs.declared.Chosen.the-variants as chosen
-use Rattle.layouts.proofs.Layouts.{layout-known}
-use Rattle.layouts.proofs.Refusals.{refusal-append-passed, refusal-append-refused, passed-both, track-known, taken-passed, taken-refused}
-use Rattle.read.specs.Outcomes.{locateTests, Locates}
-use Rattle.read.specs.declared.Located.{Located}
-use Rattle.read.specs.declared.Located.the-variants as located
-use Rattle.read.proofs.Passing.{readable}
-use Rattle.read.proofs.Fitting.{located-within}
-use Rattle.rewrite.specs.Refusals.{isAt, cellOf, found, contentsTests, placeTests, requestTests}
-use Rattle.rewrite.specs.Outcomes.{requested, Requests}
+use Rattle.layouts.proofs.Refusals.{told-passed, then-refused, answer-refused}
+use Rattle.verdicts.specs.Tests.{Verdict, passed, refusal, by}
+use Rattle.verdicts.proofs.Tests.{append-passed, passed-both}
+use Rattle.walk.specs.Outcomes.{locateTests, found, Locates}
+use Rattle.walk.specs.declared.Block.{Block}
+use Rattle.walk.specs.declared.Block.the-variants.{Missing, Beyond, Within}
+use Rattle.walk.specs.declared.Located.{Located}
+use Rattle.walk.specs.declared.Located.the-variants as located
+use Rattle.walk.proofs.Block.{the-type as BlockType}
+use Rattle.walk.proofs.Located.{the-type as LocatedType}
+use Rattle.walk.proofs.Passing.{readable}
+use Rattle.walk.proofs.Fitting.{located-within}
+use Rattle.rewrite.specs.Refusals.{callTests, isWithin, cellOf, placeTests, requestTests}
+use Rattle.rewrite.specs.Outcomes.{firstPlan, Requests}
 use Rattle.rewrite.specs.declared.Requested.{Requested}
 use Rattle.rewrite.specs.declared.Requested.the-variants as request
 
--- ---- what a layout that its track takes is
-
-size-some : (n : ℕ) → n ≤ highest → 1 ≤ layoutOf n .size
-size-some = layout-known (λ l. 1 ≤ l .size) (lit≤ tt) (lit≤ tt) (lit≤ tt) (lit≤ tt)
-
--- A sector of it has a first byte.
-pub first-byte : (layout cylinder side length : ℕ) (r : Chosen) (k : Layout)
-    → r ≡ taken (layoutOf layout) (refusal (readingTests layout cylinder side length)) → r ≡ chosen.Taken k → 1 ≤ k .size
-unfolding readingTests
-first-byte layout cylinder side length r k said e =
-    let known = taken-passed _ _ _ (sym said ∙ e) in
-    let track = passed-both (trackTests layout cylinder side) (imageTest length ∷ []) (known .0) .0 in
-    rw (known .1) (size-some layout (track-known layout cylinder side track .0))
-
 -- ---- 10 and 11
 
+-- What is none of these is no block within the image; the code tells by the number of the variant.
+pub not-single : (place : Located) → OneOf (0 ∷ 2 ∷ 3 ∷ []) (tagOf LocatedType place) → isWithin place ≡ false
+unfolding isWithin
+not-single located.Unmet h = refl
+not-single (located.Single block) h = absurd (⊎-elim (λ e. omega arith) (⊎-elim (λ e. omega arith) (λ e. omega arith)) h)
+not-single located.Doubled h = refl
+not-single (located.Refused f) h = refl
+
+pub not-within : (block : Block) → OneOf (0 ∷ 1 ∷ []) (tagOf BlockType block) → isWithin (located.Single block) ≡ false
+unfolding isWithin
+not-within Missing h = refl
+not-within (Beyond m) h = refl
+not-within (Within m) h = absurd (⊎-elim (λ e. omega arith) (λ e. omega arith) h)
+
+-- What a request answers that has come as far as the walk.
+abbrev placed : ℕ → Located → Requested
+placed layout place = by (refusal (placeTests place)) (request.Planned (firstPlan layout place)) request.Refused
+
 module _ (layout : ℕ) (place : Located) where
-  pub not-located : isAt place ≡ false → request.Refused Unreadable ≡ requested (refusal (placeTests place)) layout (cellOf place)
-  unfolding refusal
+  pub not-located : isWithin place ≡ false → request.Refused Unreadable ≡ placed layout place
+  unfolding by refusal placeTests
   not-located e = rw e
 
-  module _ (m : ℕ) (is : place ≡ located.At m) where
-    pub off-boundary : (m % 8 ≡ 0 → ⊥) → request.Refused OffBoundary ≡ requested (refusal (placeTests place)) layout (cellOf place)
-    unfolding refusal
+  module _ (m : ℕ) (is : place ≡ located.Single (Within m)) where
+    pub off-boundary : (m % 8 ≡ 0 → ⊥) → request.Refused OffBoundary ≡ placed layout place
+    unfolding by refusal placeTests isWithin cellOf
     off-boundary h = rw (is, ne-eqb (m % 8) 0 h)
 
-    pub on-boundary : m % 8 ≡ 0
-        → request.Planned (record { layout = layout; place = m; made = 0 }) ≡ requested (refusal (placeTests place)) layout (cellOf place)
-    unfolding refusal
+    pub on-boundary : m % 8 ≡ 0 → request.Planned (record { layout = layout; place = m; made = 0 }) ≡ placed layout place
+    unfolding by refusal placeTests isWithin cellOf
     on-boundary h = rw (is, eq-eqb (m % 8) 0 h)
 
--- ---- all the tests of a request
+-- ---- a request, of whose tests before the walk x is told
 
-module _ (layout cylinder side sector mark : ℕ) (contents image : List ℕ) where
-  -- Those that need no walk.
-  abbrev pub asked : List Test
-  asked =
-      readingTests layout cylinder side (length image)
-      ++ (sectorTest (layoutOf layout .sectors) sector ∷ contentsTests (layoutOf layout) cylinder mark contents)
+module _ (layout cylinder side sector mark : ℕ) (contents image : List ℕ) (x : Checked)
+    (said : x ≡ told (refusal (callTests layout cylinder side sector mark contents (length image)))) where
+  -- One of them applies.
+  pub asked-wrong : (f : Refusal) → x ≡ Refused f → Requests layout cylinder side sector mark contents image (request.Refused f)
+  unfolding requestTests
+  asked-wrong f e = answer-refused _ _ _ x (then-refused _ _ x said f e) f e
 
-  -- They stand before 10 and 11, and begin with those of the walk.
-  asked-first : requestTests layout cylinder side sector mark contents image ≡ asked ++ placeTests (found layout cylinder side sector image)
-  unfolding requestTests locateTests
-  asked-first =
-      let reading = readingTests layout cylinder side (length image) in
-      let nine = sectorTest (layoutOf layout .sectors) sector ∷ [] in
-      let five = contentsTests (layoutOf layout) cylinder mark contents in
-      let ten = placeTests (found layout cylinder side sector image) in
-      append-assoc reading nine (five ++ ten) ∙ sym (append-assoc reading (nine ++ five) ten)
+  -- None applies, and this is what the walk answers.
+  module _ (right : x ≡ Passed) (place : Located) (walked : Locates layout cylinder side sector image place) where
+    calls-passed : refusal (callTests layout cylinder side sector mark contents (length image)) ≡ passed
+    calls-passed = told-passed _ x said right
 
-  located-first : locateTests layout cylinder side (length image) sector ++ contentsTests (layoutOf layout) cylinder mark contents ≡ asked
-  unfolding locateTests
-  located-first =
-      append-assoc (readingTests layout cylinder side (length image)) (sectorTest (layoutOf layout .sectors) sector ∷ [])
-      (contentsTests (layoutOf layout) cylinder mark contents)
+    locate-passed : refusal (locateTests layout cylinder side (length image) sector) ≡ passed
+    unfolding callTests
+    locate-passed = passed-both _ _ calls-passed .0
 
-  module _ (r : Chosen) (said : r ≡ taken (layoutOf layout) (refusal asked)) where
-    -- One of them applies.
-    verdict-refused : (f : Refusal) → r ≡ chosen.Refused f → refusal (requestTests layout cylinder side sector mark contents image) ≡ Refused f
-    verdict-refused f e =
-        ap refusal asked-first ∙ refusal-append-refused asked _ f (taken-refused (layoutOf layout) (refusal asked) f (sym said ∙ e))
+    -- It is where the walk finds the block, for it refuses no such call.
+    walk-finds : place ≡ found layout cylinder side sector image
+    unfolding by
+    walk-finds = rw locate-passed at walked
 
-    pub asked-wrong : (f : Refusal) → r ≡ chosen.Refused f → Requests layout cylinder side sector mark contents image (request.Refused f)
-    asked-wrong f e = rw (verdict-refused f e)
+    -- The cell that is noted fits the plan.
+    pub cell-small : cellOf place < 4294967296
+    unfolding locateTests cellOf
+    cell-small = go place walk-finds
+      where
+        go : (p : Located) → p ≡ found layout cylinder side sector image → cellOf p < 4294967296
+        go (located.Single (Within m)) e =
+            let within = located-within (trackOf layout cylinder side) (cell image) (8 * length image) sector m (sym e) in
+            let known = readable layout cylinder side (length image) (passed-both _ _ locate-passed .0) in
+            omega (arith, within, known .long)
+        go (located.Single Missing) e = omega arith
+        go (located.Single (Beyond m)) e = omega arith
+        go located.Unmet e = omega arith
+        go located.Doubled e = omega arith
+        go (located.Refused f) e = omega arith
 
-    -- None applies, and this is what the walk answers.
-    module _ (k : Layout) (right : r ≡ chosen.Taken k) (place : Located) (walked : Locates layout cylinder side sector image place) where
-      passed : refusal asked ≡ Passed
-      passed = taken-passed (layoutOf layout) k (refusal asked) (sym said ∙ right) .0
-
-      walk-passed : refusal (locateTests layout cylinder side (length image) sector) ≡ Passed
-      walk-passed = passed-both (locateTests layout cylinder side (length image) sector) _ (ap refusal located-first ∙ passed) .0
-
-      -- It is where reading finds the block, for the walk refuses no such call.
-      walk-finds : place ≡ found layout cylinder side sector image
-      walk-finds = rw walk-passed at walked
-
-      -- The cell that is noted fits the plan.
-      pub cell-small : cellOf place < 4294967296
-      cell-small = go place walk-finds
-        where
-          go : (x : Located) → x ≡ found layout cylinder side sector image → cellOf x < 4294967296
-          go (located.At m) e =
-              let within = located-within (layoutOf layout) cylinder side (cell image) (8 * length image) sector m (sym e) in
-              let known = readable layout cylinder side (length image) _ r k said right in
-              omega (arith, known .long)
-          go (located.Unread fault) e = omega arith
-          go (located.Refused f) e = omega arith
-
-      -- 10 and 11 decide.
-      verdict-placed : refusal (requestTests layout cylinder side sector mark contents image) ≡ refusal (placeTests place)
-      verdict-placed =
-          ap refusal asked-first ∙ refusal-append-passed asked _ passed ∙ ap (λ (x : Located). refusal (placeTests x)) (sym walk-finds)
-
-      pub asked-right : (answer : Requested) → answer ≡ requested (refusal (placeTests place)) layout (cellOf place)
-          → Requests layout cylinder side sector mark contents image answer
-      asked-right answer e = e ∙ rw (verdict-placed, ← walk-finds)
+    -- 10 and 11 decide.
+    pub asked-right : (answer : Requested) → answer ≡ placed layout place → Requests layout cylinder side sector mark contents image answer
+    unfolding requestTests
+    asked-right answer e =
+        let at = found layout cylinder side sector image in
+        e
+        ∙ ap (placed layout) walk-finds
+        ∙ sym (ap (λ (v : Verdict Refusal). by v (request.Planned (firstPlan layout at)) request.Refused) (append-passed _ _ calls-passed))

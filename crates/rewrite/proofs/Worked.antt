@@ -11,19 +11,19 @@ use Rattle.cells.specs.declared.Mode.{Mode}
 use Rattle.cells.specs.declared.Pair.{Pair}
 use Rattle.edc.specs.Register.{edcBytes}
 use Rattle.layouts.specs.declared.Layout.{Layout}
-use Rattle.marks.specs.Marks.{markByte, markOf}
+use Rattle.marks.specs.Marks.{markByte, lastByte}
 use Rattle.marks.specs.declared.Mark.{Mark}
 use Rattle.marks.specs.declared.Mark.the-variants.{Open}
-use Rattle.rewrite.specs.Stores.{none, markLast, markEnd, fieldStart, blockEnd, follows, lastByte, joined, newEdc, field, stores, storeCount}
-use Rattle.rewrite.proofs.Coded.{halfOf, coding-at}
+use Rattle.rewrite.specs.Stores.{noStore, markEnd, fieldStart, blockEnd, follows, joined, newEdc, field, stores, storeCount}
+use Rattle.rewrite.proofs.Coded.{coding-at}
 use Rattle.rewrite.proofs.Listed.{mark-last, follows-true, store-open, store-coded, store-joined, store-closed}
 
 -- ---- a coded byte
 
-module _ (mode : Mode) (mark : ℕ) (known : markByte (markOf mark) ≡ mark) (contents : List ℕ) (at : ℕ) where
+module _ (mode : Mode) (mark : Mark) (contents : List ℕ) (i : ℕ) where
   -- The bytes with their EDC.
   abbrev edc : ℕ
-  edc = newEdc mode (markOf mark) contents
+  edc = newEdc mode mark contents
 
   abbrev checked : List ℕ
   checked = contents ++ edcBytes edc
@@ -31,61 +31,65 @@ module _ (mode : Mode) (mark : ℕ) (known : markByte (markOf mark) ≡ mark) (c
   length-checked : length checked ≡ length contents + 2
   length-checked = length-append contents (edcBytes edc)
 
-  -- from the byte before, b, and the byte itself, x
-  by-bytes : (b x r : ℕ) (p : Pair) → at / 2 < length checked → b ≡ getD (mark ∷ checked) (at / 2) 0 → x ≡ getD checked (at / 2) 0
-      → p ≡ codedByte mode (b % 2) x → r ≡ halfOf p at → r ≡ getD (field mode (markOf mark) contents) at 0
-  by-bytes b x r p h e f g s = s ∙ rw (g, e, f, known) (sym (coding-at mode mark checked at h))
+  -- These are the image bytes of byte i.
+  abbrev Codes : Pair → Type 0
+  Codes p = (p .first ≡ getD (field mode mark contents) (2 * i) 0) × (p .second ≡ getD (field mode mark contents) (2 * i + 1) 0)
+
+  -- from the last bit before it, and the byte itself, x
+  by-bytes : (bit x : ℕ) (p : Pair) → i < length checked → bit ≡ getD (markByte mark ∷ checked) i 0 % 2 → x ≡ getD checked i 0
+      → p ≡ codedByte mode bit x → Codes p
+  by-bytes bit x p h e f g = rw (g, e, f) (coding-at mode (markByte mark) checked i h)
 
   -- the byte before stands in the contents, or is the mark
-  before-kept : at / 2 ≤ length contents → getD (mark ∷ contents) (at / 2) 0 ≡ getD (mark ∷ checked) (at / 2) 0
-  before-kept h = sym (List·getD-append (mark ∷ contents) (edcBytes edc) 0 (at / 2) (omega arith))
+  before-kept : i ≤ length contents → getD (markByte mark ∷ contents) i 0 % 2 ≡ getD (markByte mark ∷ checked) i 0 % 2
+  before-kept h = ap (λ (x : ℕ). x % 2) (sym (List·getD-append (markByte mark ∷ contents) (edcBytes edc) 0 i (omega arith)))
 
-  pub data-coded : (b r : ℕ) (p : Pair) → at / 2 < length contents → b ≡ getD (mark ∷ contents) (at / 2) 0
-      → p ≡ codedByte mode (b % 2) (getD contents (at / 2) 0) → r ≡ halfOf p at
-      → r ≡ getD (field mode (markOf mark) contents) at 0
-  data-coded b r p h e g s =
-      by-bytes b (getD contents (at / 2) 0) r p (omega (arith, length-checked)) (e ∙ before-kept (omega arith))
-      (sym (List·getD-append contents (edcBytes edc) 0 (at / 2) h)) g s
+  pub data-coded : (bit : ℕ) (p : Pair) → i < length contents → bit ≡ getD (markByte mark ∷ contents) i 0 % 2
+      → p ≡ codedByte mode bit (getD contents i 0) → Codes p
+  data-coded bit p h e g =
+      by-bytes bit (getD contents i 0) p (omega (arith, length-checked)) (e ∙ before-kept (omega arith))
+      (sym (List·getD-append contents (edcBytes edc) 0 i h)) g
 
-  module _ (kind : Mark) (k : ℕ) (kind-said : kind ≡ markOf mark) (edc-said : k ≡ newEdc mode kind contents) where
-    edc-known : k ≡ edc
-    edc-known = rw kind-said at edc-said
+  module _ (k : ℕ) (edc-said : k ≡ edc) where
+    pub upper-coded : (bit : ℕ) (p : Pair) → i ≡ length contents → bit ≡ getD (markByte mark ∷ contents) i 0 % 2
+        → p ≡ codedByte mode bit (k / 256) → Codes p
+    upper-coded bit p h e g =
+        by-bytes bit (k / 256) p (omega (arith, length-checked)) (e ∙ before-kept (omega arith))
+        (ap (λ (x : ℕ). x / 256) edc-said ∙ sym (getD-at contents (edc / 256) (edc % 256 ∷ []) 0 i (sym h))) g
 
-    pub upper-coded : (b r : ℕ) (p : Pair) → at / 2 ≡ length contents → b ≡ getD (mark ∷ contents) (at / 2) 0
-        → p ≡ codedByte mode (b % 2) (k / 256) → r ≡ halfOf p at → r ≡ getD (field mode (markOf mark) contents) at 0
-    upper-coded b r p h e g s =
-        by-bytes b (k / 256) r p (omega (arith, length-checked)) (e ∙ before-kept (omega arith))
-        (ap (λ (x : ℕ). x / 256) edc-known ∙ sym (getD-at contents (edc / 256) (edc % 256 ∷ []) 0 (at / 2) (sym h))) g s
+    pub lower-coded : (p : Pair) → length contents ≤ i → (i ≡ length contents → ⊥) → i < length contents + 2
+        → p ≡ codedByte mode (k / 256 % 2) (k % 256) → Codes p
+    lower-coded p h n u g =
+        let next : i ≡ length contents + 1 = omega arith in
+        let upper = getD-at (markByte mark ∷ contents) (edc / 256) (edc % 256 ∷ []) 0 i (omega arith) in
+        by-bytes (k / 256 % 2) (k % 256) p (omega (arith, length-checked))
+        (ap (λ (x : ℕ). x / 256 % 2) edc-said ∙ ap (λ (x : ℕ). x % 2) (sym upper))
+        (ap (λ (x : ℕ). x % 256) edc-said ∙ rw next (sym (getD-append-add contents (edcBytes edc) 1 0))) g
 
-    pub lower-coded : (r : ℕ) (p : Pair) → length contents ≤ at / 2 → (at / 2 ≡ length contents → ⊥) → at < 2 * (length contents + 2)
-        → p ≡ codedByte mode (k / 256 % 2) (k % 256) → r ≡ halfOf p at → r ≡ getD (field mode (markOf mark) contents) at 0
-    lower-coded r p h n u g s =
-        let i : at / 2 ≡ length contents + 1 = omega arith in
-        by-bytes (k / 256) (k % 256) r p (omega (arith, length-checked))
-        (ap (λ (x : ℕ). x / 256) edc-known ∙ sym (getD-at (mark ∷ contents) (edc / 256) (edc % 256 ∷ []) 0 (at / 2) (omega arith)))
-        (ap (λ (x : ℕ). x % 256) edc-known ∙ rw i (sym (getD-append-add contents (edcBytes edc) 1 0))) g s
+  -- One of the two, by its place in the field.
+  pub first-coded : (at : ℕ) (p : Pair) → i ≡ at / 2 → Codes p → at % 2 ≡ 0 → p .first ≡ getD (field mode mark contents) at 0
+  first-coded at p e h z = let f : 2 * i ≡ at = omega arith in rw f at (h .0)
+
+  pub second-coded : (at : ℕ) (p : Pair) → i ≡ at / 2 → Codes p → (at % 2 ≡ 0 → ⊥) → p .second ≡ getD (field mode mark contents) at 0
+  second-coded at p e h n = let f : 2 * i + 1 ≡ at = omega arith in rw f at (h .1)
 
 -- ---- a store
 
 module _ (l : Layout) (image : List ℕ) (place : ℕ) (mark : Mark) (contents : List ℕ) (whole : length contents ≡ l .size)
-    (last : ℕ) (last-said : last ≡ markLast (l .mode)) (made : ℕ) where
-  -- The place of the mark's last byte, and those counted from it.
-  mark-place : place / 8 + last ≡ markEnd l place
-  mark-place = rw last-said
-
+    (end : ℕ) (end-said : end ≡ markEnd l place) (made : ℕ) where
   -- The store of an equal number.
-  at-number : {k : ℕ} → made ≡ k → getD (stores l image place mark contents) made none ≡ getD (stores l image place mark contents) k none
+  at-number : {k : ℕ} → made ≡ k → getD (stores l image place mark contents) made noStore ≡ getD (stores l image place mark contents) k noStore
   at-number e = rw e
 
   pub opened : (v : ℕ) → made ≡ 0 → v ≡ lastByte (l .mode) Open
-      → record { place = place / 8 + last; value = v } ≡ getD (stores l image place mark contents) made none
-  opened v z e = sym (at-number z ∙ store-open l image place mark contents whole ∙ rw (e, mark-place))
+      → record { byte = end; value = v } ≡ getD (stores l image place mark contents) made noStore
+  opened v z e = sym (at-number z ∙ store-open l image place mark contents whole ∙ rw (e, end-said))
 
   pub coded-in : (v : ℕ) → (made ≡ 0 → ⊥) → made < 2 * length contents + 5 → v ≡ getD (field (l .mode) mark contents) (made - 1) 0
-      → record { place = place / 8 + last + made; value = v } ≡ getD (stores l image place mark contents) made none
+      → record { byte = end + made; value = v } ≡ getD (stores l image place mark contents) made noStore
   coded-in v n h e =
       let s : made ≡ suc (made - 1) = omega arith in
-      let p : place / 8 + last + made ≡ fieldStart l place + (made - 1) = omega (arith, mark-last (l .mode)) in
+      let p : end + made ≡ fieldStart l place + (made - 1) = omega (arith, mark-last (l .mode)) in
       sym (at-number s ∙ store-coded l image place mark contents whole (made - 1) (omega arith) ∙ rw (e, p))
 
   module _ (late : 2 * length contents + 5 ≤ made) (within : made < storeCount l place (length image))
@@ -100,22 +104,20 @@ module _ (l : Layout) (image : List ℕ) (place : ℕ) (mark : Mark) (contents :
     unfolding storeCount
     after-known h = follows-late (follows (l .mode) (blockEnd l place) (length image)) refl (rw counts at h)
 
-    after-place : made ≡ 2 * l .size + 5 → place / 8 + last + made ≡ blockEnd l place
+    after-place : made ≡ 2 * l .size + 5 → end + made ≡ blockEnd l place
     after-place e = omega (arith, mark-last (l .mode))
 
-    pub after-within : made + 1 < count → place / 8 + last + made < length image
+    pub after-within : made + 1 < count → end + made < length image
     after-within h =
         let k = after-known h in
         rw (after-place (k .1)) (follows-true (l .mode) (blockEnd l place) (length image) (k .0) .1)
 
-    pub joined-in : (kind : Mark) (edc v : ℕ) → made + 1 < count → kind ≡ mark → edc ≡ newEdc (l .mode) kind contents
-        → v ≡ joined (edc % 2) (getD image (place / 8 + last + made) 0)
-        → record { place = place / 8 + last + made; value = v } ≡ getD (stores l image place mark contents) made none
-    joined-in kind edc v h m d e =
+    pub joined-in : (v : ℕ) → made + 1 < count → v ≡ joined (newEdc (l .mode) mark contents % 2) (getD image (end + made) 0)
+        → record { byte = end + made; value = v } ≡ getD (stores l image place mark contents) made noStore
+    joined-in v h e =
         let k = after-known h in
-        let b : edc ≡ newEdc (l .mode) mark contents = rw m at d in
-        sym (at-number (k .1) ∙ store-joined l image place mark contents whole (k .0) ∙ rw (e, b, after-place (k .1)))
+        sym (at-number (k .1) ∙ store-joined l image place mark contents whole (k .0) ∙ rw (e, after-place (k .1)))
 
-    pub closed : (kind : Mark) (v : ℕ) → count ≤ made + 1 → kind ≡ mark → v ≡ lastByte (l .mode) kind
-        → record { place = place / 8 + last; value = v } ≡ getD (stores l image place mark contents) made none
-    closed kind v h m e = sym (store-closed l image place mark contents whole made (omega arith) ∙ rw (e, m, mark-place))
+    pub closed : (v : ℕ) → count ≤ made + 1 → v ≡ lastByte (l .mode) mark
+        → record { byte = end; value = v } ≡ getD (stores l image place mark contents) made noStore
+    closed v h e = sym (store-closed l image place mark contents whole made (omega arith) ∙ rw (e, end-said))

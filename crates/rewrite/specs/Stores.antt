@@ -10,26 +10,21 @@ use Rattle.cells.specs.Coding.{high, low}
 use Rattle.cells.specs.declared.Mode.{Mode}
 use Rattle.cells.specs.declared.Mode.the-variants.{Fm, Mfm}
 use Rattle.edc.specs.Register.{edcOf, edcBytes}
-use Rattle.layouts.specs.Layouts.{markBytes}
 use Rattle.layouts.specs.declared.Layout.{Layout}
-use Rattle.marks.specs.Marks.{string, markByte, covered}
+use Rattle.marks.specs.Marks.{markByte, markBytes, markLast, lastByte, covered}
 use Rattle.marks.specs.declared.Mark.{Mark}
 use Rattle.marks.specs.declared.Mark.the-variants.{Open}
 use Rattle.rewrite.specs.declared.Store.{Store}
 
 -- The image after a store: no other byte is changed.
 abbrev pub stored : List ℕ → Store → List ℕ
-stored image store = set image (store .place) (store .value)
+stored image store = set image (store .byte) (store .value)
 
 -- No store: what the list gives beyond its end, where every step is refused.
-abbrev pub none : Store
-none = record { place = 0; value = 0 }
+abbrev pub noStore : Store
+noStore = record { byte = 0; value = 0 }
 
--- ---- places: where in the image a block's parts are, whose mark begins at cell `place`, on a byte boundary
-
--- How far behind a mark's first image byte its last one stands.
-abbrev pub markLast : Mode → ℕ
-markLast mode = 2 * markBytes mode - 1
+-- ---- bytes: where in the image a block's parts are, whose mark begins at cell `place`, on a byte boundary
 
 module _ (l : Layout) (place : ℕ) where
   -- The last byte of the mark.
@@ -50,10 +45,6 @@ follows Fm end bytes = false
 follows Mfm end bytes = ltb end bytes
 
 -- ---- values
-
--- The last image byte of a mark: of the open mark 49 in MFM and 6B in FM.
-unfoldable pub lastByte : Mode → Mark → ℕ
-lastByte mode mark = getD (string mode mark) (markLast mode) 0
 
 -- The image bytes of the bytes xs, coded as if the byte b stood before them.
 unfoldable pub coding : Mode → ℕ → List ℕ → List ℕ
@@ -78,24 +69,24 @@ joined bit byte = cond (eqb (byte / 64 % 2) 0) (128 * (1 - bit) + byte % 128) by
 -- Values stored one behind the other, from an image byte on.
 unfoldable pub storing : ℕ → List ℕ → List Store
 storing at [] = []
-storing at (v ∷ vs) = let rest = storing (suc at) vs in record { place = at; value = v } ∷ rest
+storing at (v ∷ vs) = let rest = storing (suc at) vs in record { byte = at; value = v } ∷ rest
 
 module _ (l : Layout) (image : List ℕ) (place : ℕ) (mark : Mark) (contents : List ℕ) where
   -- The store of the byte after the block, if there is one.
   abbrev pub edge : List Store
   edge =
       cond (follows (l .mode) (blockEnd l place) (length image))
-      (record { place = blockEnd l place; value = joined (newEdc (l .mode) mark contents % 2) (getD image (blockEnd l place) 0) } ∷ [])
+      (record { byte = blockEnd l place; value = joined (newEdc (l .mode) mark contents % 2) (getD image (blockEnd l place) 0) } ∷ [])
       []
 
   -- The stores: the mark is opened, the data cells and those of the EDC are written, then the byte after the block; last the mark becomes the
   -- new one.
   unfoldable pub stores : List Store
   stores =
-      record { place = markEnd l place; value = lastByte (l .mode) Open }
+      record { byte = markEnd l place; value = lastByte (l .mode) Open }
       ∷ (storing (fieldStart l place) (field (l .mode) mark contents)
       ++ (edge
-      ++ (record { place = markEnd l place; value = lastByte (l .mode) mark } ∷ [])))
+      ++ (record { byte = markEnd l place; value = lastByte (l .mode) mark } ∷ [])))
 
 -- How many they are: 2N + 7, or 2N + 6 in FM and at the image's end. (The law `stores-count` says that N bytes make a list of this length.)
 unfoldable pub storeCount : Layout → (place bytes : ℕ) → ℕ

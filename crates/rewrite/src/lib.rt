@@ -1,11 +1,10 @@
 // The rewrite of a sector's block, one store at a time, so that one that is cut off anywhere leaves every other sector as it was. A plan
 // notes the block's place; each step is handed the mark and the bytes again, and trusts nothing of its plan.
-use layouts::Chosen;
+use layouts::Checked;
 use layouts::Refusal;
 ghost use Rattle.rewrite.specs.Outcomes.{CountsStores, Steps, Requests};
 
-mod requests;
-mod tests;
+mod refusals;
 mod values;
 
 // A rewrite under way. A step takes any numbers.
@@ -18,9 +17,9 @@ pub struct Plan {
     pub made: u32,
 }
 
-// One store: the image byte `place` becomes `value`.
+// One store: the image byte `byte` becomes `value`.
 pub struct Store {
-    pub place: usize,
+    pub byte: usize,
     pub value: u8,
 }
 
@@ -53,48 +52,48 @@ pub fn request(
 ) -> Requested
     ensures { λ r. ⌜ Requests layout cylinder side sector mark (now (contents .entry)) (now (image .entry)) r ⌝ }
 {
-    match requests::tested(layout, cylinder, side, sector, mark, contents, image.len()) {
-        Chosen::Refused(refusal) => Requested::Refused(refusal),
-        Chosen::Taken(_) => {
-            let located = read::locate(layout, cylinder, side, sector, image);
-            requests::noted(layout, located)
-        }
+    let tested = refusals::call_tests(layout, cylinder, side, sector, mark, contents, image.len());
+    if let Checked::Refused(refusal) = tested {
+        return Requested::Refused(refusal);
     }
+    let located = walk::locate(layout, cylinder, side, sector, image);
+    refusals::noted(layout, located)
 }
 
 // How many stores a rewrite by the plan makes in an image of `bytes` bytes; none above the highest layout.
 pub fn stores_in_all(plan: Plan, bytes: usize) -> u32
     ensures { λ r. ⌜ CountsStores plan bytes r ⌝ }
 {
-    match layouts::numbered(plan.layout) {
-        Chosen::Refused(_) => 0,
-        Chosen::Taken(layout) => values::count_of(layout, plan.place as usize, bytes) as u32,
-    }
+    let Checked::Passed = layouts::layout_number(plan.layout) else {
+        return 0;
+    };
+    let layout = layouts::layout_of(plan.layout);
+    values::count_of(layout, plan.place as usize, bytes) as u32
 }
 
 // Makes the store that is next by the plan. `mark` is FB or F8, and `contents` the sector's bytes.
 pub fn step(plan: Plan, mark: u32, contents: &[u8], image: &mut [u8]) -> Stepped
     ensures { λ r. ⌜ Steps plan mark (now (contents .entry)) (now (image .entry)) r (now (image .exit)) ⌝ }
 {
-    match tests::tested(plan, mark, contents, image) {
-        Chosen::Refused(refusal) => Stepped::Refused(refusal),
-        Chosen::Taken(layout) => {
-            let store = values::store_of(
-                layout,
-                mark as u8,
-                contents,
-                image,
-                plan.place as usize,
-                plan.made as usize,
-            );
-            let at = store.place;
-            let value = store.value;
-            image[at] = value;
-            Stepped::Made(Plan {
-                layout: plan.layout,
-                place: plan.place,
-                made: plan.made + 1,
-            })
-        }
+    let layout = layouts::layout_of(plan.layout);
+    let tested = refusals::plan_tests(layout, plan, mark, contents, image);
+    if let Checked::Refused(refusal) = tested {
+        return Stepped::Refused(refusal);
     }
+    let store = values::store_of(
+        layout,
+        marks::mark_of(mark as u8),
+        contents,
+        image,
+        plan.place as usize,
+        plan.made as usize,
+    );
+    let at = store.byte;
+    let value = store.value;
+    image[at] = value;
+    Stepped::Made(Plan {
+        layout: plan.layout,
+        place: plan.place,
+        made: plan.made + 1,
+    })
 }

@@ -1,31 +1,27 @@
 -- What each exported function promises to C and Rust. No rule of the papers stands here: each cites the crate that owns it.
-use mathlib.Core.Bool.{cond}
-use mathlib.Core.List.{List, [], _∷_, map}
+use mathlib.Core.List.{List, [], _∷_}
 use mathlib.Core.Path.{_≡_}
-use Prim.Native.Nat.{ℕ, _+_, _-_, _*_}
-use lib.Dec.{leb}
+use Prim.Native.Nat.{ℕ, _+_, _*_}
 use lib.ListN.{length, getD, replicate}
 use Rattle.cells.specs.Cells.{cell, dataByte}
 use Rattle.cells.specs.Coding.{high, low}
 use Rattle.cells.specs.declared.Mode.{Mode}
 use Rattle.edc.specs.Register.{edcOf}
 use Rattle.format.specs.Outcomes.{formattedNumber, formatAnswer, formatImage}
-use Rattle.layouts.specs.Layouts.{layoutOf, mostSectors, numbers}
-use Rattle.layouts.specs.Refusals.{refusalNumber}
+use Rattle.layouts.specs.Layouts.{layoutOf}
+use Rattle.layouts.specs.Refusals.{refusalNumber, told}
 use Rattle.layouts.specs.declared.Checked.{Checked}
-use Rattle.layouts.specs.declared.Checked.the-variants.{Passed, Refused}
-use Rattle.read.specs.Answers.{answerNumber}
-use Rattle.read.specs.Outcomes.{readAnswer, readArea}
-use Rattle.read.specs.Picks.{pickedOf}
-use Rattle.read.specs.Turns.{blank}
-use Rattle.read.specs.declared.Record.{Record}
+use Rattle.layouts.specs.declared.Refusal.{Refusal}
+use Rattle.read.specs.Outcomes.{readTests, readAnswer, readArea}
 use Rattle.rewrite.specs.Outcomes.{storesInAll, stepAnswer, stepImage, steppedNumber, requestAnswer, requestedNumber}
 use Rattle.rewrite.specs.declared.Plan.{Plan}
 use Rattle.rewrite.specs.declared.Stepped.{Stepped}
 use Rattle.rewrite.specs.declared.Stepped.the-variants as step
 use Rattle.rewrite.specs.declared.Requested.{Requested}
 use Rattle.rewrite.specs.declared.Requested.the-variants as request
-use Rattle.station.specs.Picks.{numberedRecords, pickNumber, partOf, partList}
+use Rattle.verdicts.specs.Tests.{Verdict, refusal, by}
+use Rattle.station.specs.Picks.{numberedChoice, pickNumber, partOf}
+use Rattle.station.specs.Records.{recordList}
 
 -- `station_edc` answers the EDC of the bytes.
 abbrev pub GivesEdc : List ℕ → ℕ → Type 0
@@ -46,32 +42,26 @@ pub record GivesFormat (layout cylinder side : ℕ) (contents marks before : Lis
   pub leaves : after ≡ formatImage layout cylinder side contents marks before
 
 -- The number of a verdict: 0, or the refusal's (01, "Refused calls").
-abbrev pub verdictNumber : Checked → ℕ
-verdictNumber Passed = 0
-verdictNumber (Refused f) = refusalNumber f
+abbrev pub verdictNumber : Verdict Refusal → ℕ
+verdictNumber v = by v 0 refusalNumber
 
--- The papers' number for sector s, or 0 past the count (01, "How a track is read").
-unfoldable pub answerAt : ℕ → List Record → ℕ → ℕ
-answerAt count records s = cond (leb s count) (answerNumber (getD records (s - 1) blank .answer)) 0
+-- The number goes with what is told of a verdict. (An aid of the code; no promise rests on it.)
+abbrev pub IsVerdictNumber : Checked → ℕ → Type 0
+IsVerdictNumber answer number = (v : Verdict Refusal) → answer ≡ told v → number ≡ verdictNumber v
 
--- The numbers by sector.
-unfoldable pub answerList : ℕ → List Record → List ℕ
-answerList count records = map (answerAt count records) (numbers mostSectors 1)
-
--- `station_read` gives the verdict's number, the answers by sector, the two counts, and what the read leaves in the area.
+-- `station_read` gives the verdict's number, the records by sector in numbers, the two counts, and what the read leaves in the area.
 pub record GivesRead (layout cylinder side : ℕ) (image : List ℕ) (given number : ℕ) (area answers counts : List ℕ) : Type 0 where
-  pub numbered : number ≡ verdictNumber (readAnswer layout cylinder side image given .verdict)
+  pub numbered : number ≡ verdictNumber (refusal (readTests layout cylinder side (length image) given))
   pub leaves : area ≡ readArea layout cylinder side image given
   pub answered :
-      answers ≡ answerList (readAnswer layout cylinder side image given .sectors) (readAnswer layout cylinder side image given .records .list)
+      answers ≡ recordList (readAnswer layout cylinder side image given .sectors) (readAnswer layout cylinder side image given .records .list)
   pub counted :
       counts ≡ readAnswer layout cylinder side image given .bad ∷ readAnswer layout cylinder side image given .foreign ∷ []
 
--- `station_pick` gives the number of what is picked from two passes, by the numbers of their answers, and where its bytes are.
+-- `station_pick` gives the number of what is picked from two passes, by the numbers of their records, and where its bytes are.
 pub record GivesPick (layout sector : ℕ) (first ones second twos : List ℕ) (number : ℕ) (taken : List ℕ) : Type 0 where
-  pub numbered : number ≡ pickNumber (pickedOf layout sector first (numberedRecords ones) second (numberedRecords twos))
-  pub placed :
-      taken ≡ partList (partOf (layoutOf layout) sector (pickedOf layout sector first (numberedRecords ones) second (numberedRecords twos)))
+  pub numbered : number ≡ pickNumber (numberedChoice layout sector first ones second twos)
+  pub placed : taken ≡ partOf (layoutOf layout) sector (numberedChoice layout sector first ones second twos)
 
 -- A plan in four numbers: its layout, the cell at which the block's mark begins, the stores made, and the stores in all in an image of so many
 -- bytes.
@@ -79,8 +69,8 @@ abbrev pub planNumbers : Plan → (bytes : ℕ) → List ℕ
 planNumbers plan bytes = plan .layout ∷ plan .place ∷ plan .made ∷ storesInAll plan bytes ∷ []
 
 -- The plan that four numbers say. The fourth is not looked at.
-abbrev pub planOf : List ℕ → Plan
-planOf numbers = record { layout = getD numbers 0 0; place = getD numbers 1 0; made = getD numbers 2 0 }
+abbrev pub numberedPlan : List ℕ → Plan
+numberedPlan numbers = record { layout = getD numbers 0 0; place = getD numbers 1 0; made = getD numbers 2 0 }
 
 -- What a request's answer leaves in the plan: its numbers, or zeros.
 abbrev pub noted : Requested → (bytes : ℕ) → List ℕ
@@ -100,6 +90,6 @@ pub record GivesRequest (layout cylinder side sector mark : ℕ) (contents image
 -- `station_step` gives 0, the plan moved on and the image with one store made; or the number of the first refusal that applies, with plan and
 -- image as they were.
 pub record GivesStep (before : List ℕ) (mark : ℕ) (contents image : List ℕ) (number : ℕ) (plan after : List ℕ) : Type 0 where
-  pub numbered : number ≡ steppedNumber (stepAnswer (planOf before) mark contents image)
-  pub moves : plan ≡ moved (stepAnswer (planOf before) mark contents image) before (length image)
-  pub leaves : after ≡ stepImage (planOf before) mark contents image
+  pub numbered : number ≡ steppedNumber (stepAnswer (numberedPlan before) mark contents image)
+  pub moves : plan ≡ moved (stepAnswer (numberedPlan before) mark contents image) before (length image)
+  pub leaves : after ≡ stepImage (numberedPlan before) mark contents image

@@ -1,16 +1,16 @@
 // The library for C and Rust: thin functions over the crates that own the rules.
 use cells::Mode;
 use layouts::Checked;
-use read::Records;
 ghost use mathlib.Core.Path.{_≡_};
-ghost use mathlib.Core.List.{[], _∷_};
-ghost use Prim.Native.Nat.{_+_, _*_, _<_};
+ghost use Prim.Native.Nat.{_+_, _*_};
 ghost use lib.ListN.{length};
 ghost use Rattle.cells.specs.Coding.{high, low};
 ghost use Rattle.cells.specs.declared.Mode.the-variants.{Fm, Mfm};
-ghost use Rattle.station.specs.Outcomes.{GivesEdc, GivesCoded, GivesDataByte, GivesFormat, GivesRead, GivesPick, GivesRequest, GivesStep, verdictNumber, answerAt, answerList};
+ghost use Rattle.station.specs.Outcomes.{GivesEdc, GivesCoded, GivesDataByte, GivesFormat, GivesRead, GivesPick, GivesRequest, GivesStep};
+ghost use Rattle.station.specs.Outcomes.{IsVerdictNumber};
 
 mod pick;
+mod records;
 mod rewriting;
 
 // The EDC of the bytes, with the register all ones at the start.
@@ -70,48 +70,14 @@ pub extern "C" fn station_format(
     format::formatted_number(answer)
 }
 
-// The number of a verdict: 0, or the refusal's.
+// The number of the verdict that this tells: 0, or the refusal's.
 fn verdict_number(verdict: Checked) -> u8
-    ensures { λ r. ⌜ r ≡ verdictNumber verdict ⌝ }
+    ensures { λ r. ⌜ IsVerdictNumber verdict r ⌝ }
 {
     match verdict {
         Checked::Passed => 0,
         Checked::Refused(refusal) => layouts::refusal_number(refusal),
     }
-}
-
-// The number of the answer at an index, or 0 past the count.
-fn answer_at(count: usize, records: Records, index: usize) -> u8
-    requires { ⌜ index < 26 ⌝ }
-    ensures { λ r. ⌜ r ≡ answerAt count (records .list) (index + 1) ⌝ }
-{
-    if index < count {
-        let record = records.list[index];
-        let answer = record.answer;
-        return read::answer_number(answer);
-    }
-    0
-}
-
-// The numbers of the answers by sector, and 0 past the count.
-fn list_answers(count: usize, records: Records, answers: &mut [u8])
-    requires { ⌜ length (now answers) ≡ 26 ⌝ }
-    ensures { λ _. ⌜ now (answers .exit) ≡ answerList count (records .list) ⌝ }
-{
-    let mut i = 0;
-    while i < answers.len() {
-        answers[i] = answer_at(count, records, i);
-        i += 1;
-    }
-}
-
-// Stores both counts.
-fn list_counts(bad: u32, foreign: u32, counts: &mut [u32])
-    requires { ⌜ length (now counts) ≡ 2 ⌝ }
-    ensures { λ _. ⌜ now (counts .exit) ≡ bad ∷ foreign ∷ [] ⌝ }
-{
-    counts[0] = bad;
-    counts[1] = foreign;
 }
 
 // Reads a track: 0, or the number of the refusal. `area` gets a slot for each sector number, `answers` the papers' numbers by sector and 0 past
@@ -129,10 +95,9 @@ pub extern "C" fn station_read(
     ensures { λ r. ⌜ GivesRead layout cylinder side (now (image .entry)) (length (now (area .entry))) r (now (area .exit)) (now (answers .exit)) (now (counts .exit)) ⌝ }
 {
     let reading = read::read(layout, cylinder, side, image, area);
-    let records = reading.records;
+    *answers = records::list_of(reading.sectors, reading.records);
+    *counts = [reading.bad, reading.foreign];
     let verdict = reading.verdict;
-    list_answers(reading.sectors, records, answers);
-    list_counts(reading.bad, reading.foreign, counts);
     verdict_number(verdict)
 }
 
@@ -151,10 +116,10 @@ pub extern "C" fn station_pick(
 ) -> u8
     ensures { λ r. ⌜ GivesPick layout sector (now (first .entry)) (now («first_answers» .entry)) (now (second .entry)) (now («second_answers» .entry)) r (now (taken .exit)) ⌝ }
 {
-    let one = pick::records_of(first_answers);
-    let two = pick::records_of(second_answers);
-    let picked = read::picked(layout, sector, first, one, second, two);
-    pick::list_part(pick::part_of(layout, sector, picked), taken);
+    let one = records::record_at(first_answers, sector);
+    let two = records::record_at(second_answers, sector);
+    let picked = read::choose(layout, sector, first.len(), second.len(), one, two);
+    *taken = pick::part_of(layout, sector, picked);
     pick::pick_number(picked)
 }
 
@@ -174,7 +139,8 @@ pub extern "C" fn station_request(
     ensures { λ r. ⌜ GivesRequest layout cylinder side sector mark (now (contents .entry)) (now (image .entry)) r (now (plan .exit)) ⌝ }
 {
     let answer = rewrite::request(layout, cylinder, side, sector, mark, contents, image);
-    rewriting::list_request(answer, image.len(), plan)
+    *plan = rewriting::noted(answer, image.len());
+    rewriting::request_number(answer)
 }
 
 // Makes the store that is next by the plan: 0, and `plan` is moved on; or the number of the refusal, and plan and image are as they were. The
@@ -188,7 +154,6 @@ pub extern "C" fn station_step(
 ) -> u8
     ensures { λ r. ⌜ GivesStep (now (plan .entry)) mark (now (contents .entry)) (now (image .entry)) r (now (plan .exit)) (now (image .exit)) ⌝ }
 {
-    let before = rewriting::plan_of(plan);
-    let answer = rewrite::step(before, mark, contents, image);
-    rewriting::list_step(answer, image.len(), plan)
+    let answer = rewrite::step(rewriting::numbered_plan(*plan), mark, contents, image);
+    rewriting::move_on(answer, image.len(), plan)
 }

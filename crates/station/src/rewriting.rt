@@ -3,36 +3,21 @@
 use rewrite::Plan;
 use rewrite::Requested;
 use rewrite::Stepped;
-ghost use mathlib.Core.List.{[], _∷_};
 ghost use mathlib.Core.Path.{_≡_};
-ghost use lib.ListN.{length};
 ghost use Rattle.rewrite.specs.Outcomes.{requestedNumber, steppedNumber};
-ghost use Rattle.station.specs.Outcomes.{planNumbers, planOf, noted, moved};
+ghost use Rattle.station.specs.Outcomes.{planNumbers, numberedPlan, noted, moved};
 
-// Stores four numbers.
-fn list_numbers(first: u32, second: u32, third: u32, fourth: u32, numbers: &mut [u32])
-    requires { ⌜ length (now numbers) ≡ 4 ⌝ }
-    ensures { λ _. ⌜ now (numbers .exit) ≡ first ∷ second ∷ third ∷ fourth ∷ [] ⌝ }
-{
-    numbers[0] = first;
-    numbers[1] = second;
-    numbers[2] = third;
-    numbers[3] = fourth;
-}
-
-// Stores a plan's numbers, where the image has `bytes` bytes.
-fn list_plan(plan: Plan, bytes: usize, numbers: &mut [u32])
-    requires { ⌜ length (now numbers) ≡ 4 ⌝ }
-    ensures { λ _. ⌜ now (numbers .exit) ≡ planNumbers plan bytes ⌝ }
+// A plan's numbers, where the image has `bytes` bytes.
+fn plan_numbers(plan: Plan, bytes: usize) -> [u32; 4]
+    ensures { λ r. ⌜ r ≡ planNumbers plan bytes ⌝ }
 {
     let stores = rewrite::stores_in_all(plan, bytes);
-    list_numbers(plan.layout, plan.place, plan.made, stores, numbers);
+    [plan.layout, plan.place, plan.made, stores]
 }
 
 // The plan that the numbers say. The fourth is not looked at.
-pub(crate) fn plan_of(numbers: &[u32]) -> Plan
-    requires { ⌜ length (now numbers) ≡ 4 ⌝ }
-    ensures { λ r. ⌜ r ≡ planOf (now (numbers .entry)) ⌝ }
+pub(crate) fn numbered_plan(numbers: [u32; 4]) -> Plan
+    ensures { λ r. ⌜ r ≡ numberedPlan numbers ⌝ }
 {
     Plan {
         layout: numbers[0],
@@ -41,31 +26,34 @@ pub(crate) fn plan_of(numbers: &[u32]) -> Plan
     }
 }
 
-// The number of a request's answer; its plan is stored, or zeros.
-pub(crate) fn list_request(answer: Requested, bytes: usize, numbers: &mut [u32]) -> u8
-    requires { ⌜ length (now numbers) ≡ 4 ⌝ }
-    ensures { λ r. ⌜ (r ≡ requestedNumber answer) × (now (numbers .exit) ≡ noted answer bytes) ⌝ }
+// What a request's answer leaves in the plan: its numbers, or zeros.
+pub(crate) fn noted(answer: Requested, bytes: usize) -> [u32; 4]
+    ensures { λ r. ⌜ r ≡ noted answer bytes ⌝ }
 {
     match answer {
-        Requested::Planned(plan) => {
-            list_plan(plan, bytes, numbers);
-            0
-        }
-        Requested::Refused(refusal) => {
-            list_numbers(0, 0, 0, 0, numbers);
-            layouts::refusal_number(refusal)
-        }
+        Requested::Planned(plan) => plan_numbers(plan, bytes),
+        Requested::Refused(_) => [0; 4],
     }
 }
 
-// The number of a step's answer; the plan is moved on, or stays as it was.
-pub(crate) fn list_step(answer: Stepped, bytes: usize, numbers: &mut [u32]) -> u8
-    requires { ⌜ length (now numbers) ≡ 4 ⌝ }
-    ensures { λ r. ⌜ (r ≡ steppedNumber answer) × (now (numbers .exit) ≡ moved answer (now (numbers .entry)) bytes) ⌝ }
+// The number of a request's answer.
+pub(crate) fn request_number(answer: Requested) -> u8
+    ensures { λ r. ⌜ r ≡ requestedNumber answer ⌝ }
 {
     match answer {
-        Stepped::Made(plan) => {
-            list_plan(plan, bytes, numbers);
+        Requested::Planned(_) => 0,
+        Requested::Refused(refusal) => layouts::refusal_number(refusal),
+    }
+}
+
+// The number of a step's answer. The plan's numbers are moved on, or stay as they were: they are stored only then, since a number that is held
+// through a step costs it a register.
+pub(crate) fn move_on(answer: Stepped, bytes: usize, plan: &mut [u32; 4]) -> u8
+    ensures { λ r. ⌜ (r ≡ steppedNumber answer) × (now (plan .exit) ≡ moved answer (now (plan .entry)) bytes) ⌝ }
+{
+    match answer {
+        Stepped::Made(next) => {
+            *plan = plan_numbers(next, bytes);
             0
         }
         Stepped::Refused(refusal) => layouts::refusal_number(refusal),

@@ -16,7 +16,8 @@ use Rattle.cells.proofs.fill_by_words.Tie as tie
 abbrev Inv-loop : tie.InvT-loop
 Inv-loop image at shift bytes₀ i₀ bytes i =
     (i ≤ length bytes₀) × (length bytes ≡ length bytes₀)
-    × (sets bytes₀ 0 (dataBytes (cell image) (8 * at + shift) (length bytes₀)) ≡ sets bytes i (dataBytes (cell image) (8 * (at + 2 * i) + shift) (length bytes₀ - i)))
+    × (sets bytes₀ 0 (dataBytes (cell image) (8 * at + shift) (length bytes₀))
+    ≡ sets bytes i (dataBytes (cell image) (8 * (at + 2 * i) + shift) (length bytes₀ - i)))
 
 abbrev μ-loop : tie.MeasureT-loop
 μ-loop image at shift bytes₀ i₀ bytes i = length bytes₀ - i
@@ -61,10 +62,14 @@ loop-again c =
     let known = c .before .before .before .before .before .before .before in
     let a = known .before .args in
     let from = a .at + 2 * l .i in
+    let fits = known .shared-slice-known .given in
+    let first = c .before .before .before .word-at in
+    let second = c .before .before .word-at2 in
+    let window = c .before .word-window in
     let byte = c .word-data .ensures
-    ∙ word-read (now (a .image)) from (a .shift) _ _ _ (c .before .before .before .word-at .result) (c .before .before .word-at2 .result) (c .before .word-window .result)
-    (known .before .pre .0) (known .shared-slice-known .given from .fits) (known .shared-slice-known .given (from + 1) .fits) (known .shared-slice-known .given (from + 1 + 1) .fits)
-    refl refl refl (c .before .before .before .word-at .ensures) (c .before .before .word-at2 .ensures) (c .before .word-window .ensures) in (
+    ∙ word-read (now (a .image)) from (a .shift) _ _ _ (first .result) (second .result) (window .result)
+    (known .before .pre .0) (fits from .fits) (fits (from + 1) .fits) (fits (from + 1 + 1) .fits)
+    refl refl refl (first .ensures) (second .ensures) (window .ensures) in (
       search needs,
       simp length-set (l .inv .1),
       l .inv .2 ∙ fill-turn _ _ _ _ _ _ _ (omega arith) byte (omega arith),

@@ -27,7 +27,8 @@ cast-result c = search needs
 returns : tie.Need-returns
 returns c =
     let w = c .before .args .word in
-    beside (w / 16384 % 2 * 8 + w / 4096 % 2 * 4 + w / 1024 % 2 * 2 + w / 256 % 2) (w / 64 % 2 * 8 + w / 16 % 2 * 4 + w / 4 % 2 * 2 + w % 2) (c .nibbles .result)
+    beside (w / 16384 % 2 * 8 + w / 4096 % 2 * 4 + w / 1024 % 2 * 2 + w / 256 % 2)
+    (w / 64 % 2 * 8 + w / 16 % 2 * 4 + w / 4 % 2 * 2 + w % 2) (c .nibbles .result)
     (omega arith) (omega arith) (omega (arith, c .nibbles .ensures))
     ∙ omega arith
 

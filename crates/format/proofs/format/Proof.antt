@@ -1,11 +1,17 @@
--- `format` meets its contract: the tests decide, and what passes them is written.
+-- `format` meets its contract: the tests decide, and what passes them is written in natural order.
+use mathlib.Core.Path.{sym, ap, _∙_, subst}
 use native.Mathlib.Omega.{arith}
 use denote.Ref.{now}
 use lib.ListN.{length}
-use Rattle.layouts.specs.Refusals.{refusal}
-use Rattle.format.specs.Refusals.{formatTests}
-use Rattle.format.proofs.Chosen.{accepted, refused}
 use borrow.Author.Needs.{needs}
+use Rattle.verdicts.specs.Tests.{refusal, by}
+use Rattle.layouts.specs.Layouts.{layoutOf, Every}
+use Rattle.layouts.specs.declared.Track.{Track}
+use Rattle.layouts.proofs.Refusals.{told-passed, told-refused}
+use Rattle.format.specs.Order.{Numbered}
+use Rattle.format.specs.Refusals.{formatTests}
+use Rattle.format.proofs.Parts.{length-numbers, numbered, natural}
+use Rattle.format.proofs.Accepted.{usable, accepted, in-natural-order}
 use Rattle.format.proofs.format.Statement.{statement}
 use Rattle.format.proofs.format.Tie as tie
 
@@ -15,35 +21,57 @@ tested-requires c κs = search needs
 enum-known-refusal : tie.Need-enum-known-refusal
 enum-known-refusal c = search needs
 
-enum-known-taken : tie.Need-enum-known-taken
-enum-known-taken c = search needs
+enum-told : tie.Need-enum-told
+enum-told c = search needs
 
-cast-write-track : tie.Need-cast-write-track
-cast-write-track c = omega (arith, accepted _ _ _ _ _ _ _ _ (c .before .before .before .tested .ensures) (c .before .taken .given .1) .cylinders)
+track-of-requires : tie.Need-track-of-requires
+track-of-requires c κs = search needs
 
-cast-write-track-2 : tie.Need-cast-write-track-2
-cast-write-track-2 c = omega (arith, accepted _ _ _ _ _ _ _ _ (c .before .before .before .tested .ensures) (c .before .taken .given .1) .sides)
+sub-write-track : tie.Need-sub-write-track
+sub-write-track c = search needs
+
+part-write-track-start : tie.Need-part-write-track-start
+part-write-track-start c = search needs
+
+part-write-track-end : tie.Need-part-write-track-end
+part-write-track-end c =
+    let k = c .before in
+    omega (arith, usable (k .before .before .before .before .before .before .before .args .layout) .most, ap (λ (t : Track). t .layout .sectors) (k .track-of .ensures))
 
 write-track-requires : tie.Need-write-track-requires
 write-track-requires c κs =
-    let a = accepted _ _ _ _ _ _ _ _ (c .before .before .before .before .tested .ensures) (c .before .before .taken .given .1) in
-    let u = a .serves in
-    let g = u .gaps in
-    ((a .whole, a .area, a .marked, u .few, u .size, u .sectors), (g .lead, g .«index_gap», g .«identifier_gap», g .«block_gap»))
+    let k = c .before .before .before in
+    let l = layoutOf (k .before .before .before .before .before .before .before .args .layout) in
+    let a = accepted _ _ _ _ _ _ (told-passed _ _ (k .before .before .before .tested .ensures) (k .before .enum-told .given .1)) in
+    let u = usable (k .before .before .before .before .before .before .before .args .layout) in
+    let n = natural (l .sectors) (u .most) in
+    let low = a .cylinders in
+    let few = a .sides in
+    rw (k .track-of .ensures) (
+      (record { cylinder = omega arith; side = omega arith; sectors = u .sectors; size = u .size; gaps = u .gaps }, record { slots = a .area; marked = a .marked }, a .whole),
+      (ap length n ∙ length-numbers (l .sectors) 1, subst (Every (Numbered l)) (sym n) (numbered l)),
+    )
 
 returns : tie.Need-returns
+unfolding by
 returns c =
     let a = c .before .before .before .before .before .before .before .args in
-    let by = refused (a .layout) (refusal (formatTests (a .layout) (a .cylinder) (a .side) (now (a .«data»)) (now (a .marks)) (length (now (a .image))))) _ _ (c .before .before .before .tested .ensures) (c .before .refusal .given .1) in
-    record { answers = rw by; leaves = rw by }
+    let verdict = refusal (formatTests (a .layout) (a .cylinder) (a .side) (now (a .«data»)) (now (a .marks)) (length (now (a .image)))) in
+    let refuses = told-refused verdict _ _ (c .before .before .before .tested .ensures) (c .before .refusal .given .1) in
+    record { answers = rw refuses; leaves = rw refuses }
 
 same-length : tie.Need-same-length
 same-length c = search needs
 
 returns-2 : tie.Need-returns-2
+unfolding by
 returns-2 c =
-    let a = accepted _ _ _ _ _ _ _ _ (c .before .before .before .before .before .before .before .tested .ensures) (c .before .before .before .before .before .taken .given .1) in
-    record { answers = rw (a .passed); leaves = rw (a .passed, ← a .named) (c .before .before .write-track .ensures) }
+    let w = c .before .before in
+    let k = w .before .before .before .before in
+    let a = k .before .before .before .before .before .before .before .args in
+    let verdict = refusal (formatTests (a .layout) (a .cylinder) (a .side) (now (a .«data»)) (now (a .marks)) (length (now (a .image)))) in
+    let passes = told-passed verdict _ (k .before .before .before .tested .ensures) (k .before .enum-told .given .1) in
+    record { answers = rw passes; leaves = rw passes (in-natural-order (a .layout) (a .cylinder) (a .side) _ _ _ _ (k .track-of .ensures) (w .write-track .ensures)) }
 
 pub format-spec : {M : Type 1} → statement M
 format-spec =
@@ -51,9 +79,11 @@ format-spec =
     (tie.spec
     tested-requires
     enum-known-refusal
-    enum-known-taken
-    cast-write-track
-    cast-write-track-2
+    enum-told
+    track-of-requires
+    sub-write-track
+    part-write-track-start
+    part-write-track-end
     write-track-requires
     returns
     same-length

@@ -1,8 +1,9 @@
--- `layout_of` meets its contract: each arm knows the number, and the last is left with the highest.
-use mathlib.Core.Path.{_≡_, sym, ap, _∙_}
+-- `layout_of` meets its contract: each arm knows the number, and the last is left with layout 0.
+use mathlib.Core.Path.{sym, ap, _∙_}
 use native.Mathlib.Omega.{arith}
 use borrow.Author.Needs.{needs}
 use Rattle.layouts.specs.Layouts.{layoutOf}
+use Rattle.layouts.proofs.Layouts.{layout-else}
 use Rattle.layouts.proofs.layout_of.Statement.{statement}
 use Rattle.layouts.proofs.layout_of.Tie as tie
 
@@ -32,9 +33,7 @@ returns-3 c = c .layout3 .ensures ∙ sym (ap layoutOf (c .before .match .keys3)
 
 returns-4 : tie.Need-returns-4
 unfolding layoutOf
-returns-4 c =
-    let e : c .before .before .args .layout ≡ 3 = omega arith in
-    c .layout4 .ensures ∙ sym (ap layoutOf e)
+returns-4 c = c .layout4 .ensures ∙ sym (layout-else (c .before .before .args .layout) (λ e. omega arith) (λ e. omega arith) (λ e. omega arith))
 
 pub layout-of-spec : {M : Type 1} → statement M
 layout-of-spec =

@@ -1,14 +1,15 @@
 -- `tested` meets its contract: each return follows from the flag that led to it.
-use Rattle.layouts.specs.Refusals.{refusal}
+use Rattle.layouts.specs.Refusals.{told}
+use Rattle.verdicts.specs.Tests.{refusal, by}
 use Rattle.layouts.proofs.tested.Statement.{statement}
 use Rattle.layouts.proofs.tested.Tie as tie
 
 returns : tie.Need-returns
-unfolding refusal
+unfolding refusal told by
 returns c = rw (c .if1 .taken)
 
 returns-2 : tie.Need-returns-2
-unfolding refusal
+unfolding refusal told by
 returns-2 c = rw (c .if1 .left)
 
 pub tested-spec : {M : Type 1} → statement M

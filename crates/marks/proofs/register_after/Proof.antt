@@ -46,43 +46,43 @@ enum-told-12 c = search needs
 
 returns : tie.Need-returns
 unfolding edcOf bytesEntered byteEntered bitEntered
-returns c = register-by Fm Index _ (cc) (cc) refl
+returns c = register-by Fm Index _ (c .before .before .enum-told .given .1) (c .enum-told2 .given .1) refl
 
 returns-2 : tie.Need-returns-2
 unfolding edcOf bytesEntered byteEntered bitEntered
-returns-2 c = register-by Fm Identifier _ (cc) (cc) refl
+returns-2 c = register-by Fm Identifier _ (c .before .before .enum-told .given .1) (c .enum-told3 .given .1) refl
 
 returns-3 : tie.Need-returns-3
 unfolding edcOf bytesEntered byteEntered bitEntered
-returns-3 c = register-by Fm Data _ (cc) (cc) refl
+returns-3 c = register-by Fm Data _ (c .before .before .enum-told .given .1) (c .enum-told4 .given .1) refl
 
 returns-4 : tie.Need-returns-4
 unfolding edcOf bytesEntered byteEntered bitEntered
-returns-4 c = register-by Fm Control _ (cc) (cc) refl
+returns-4 c = register-by Fm Control _ (c .before .before .enum-told .given .1) (c .enum-told5 .given .1) refl
 
 returns-5 : tie.Need-returns-5
 unfolding edcOf bytesEntered byteEntered bitEntered
-returns-5 c = register-by Fm Open _ (cc) (cc) refl
+returns-5 c = register-by Fm Open _ (c .before .before .enum-told .given .1) (c .enum-told6 .given .1) refl
 
 returns-6 : tie.Need-returns-6
 unfolding edcOf bytesEntered byteEntered bitEntered
-returns-6 c = register-by Mfm Index _ (cc) (cc) refl
+returns-6 c = register-by Mfm Index _ (c .before .before .enum-told7 .given .1) (c .enum-told8 .given .1) refl
 
 returns-7 : tie.Need-returns-7
 unfolding edcOf bytesEntered byteEntered bitEntered
-returns-7 c = register-by Mfm Identifier _ (cc) (cc) refl
+returns-7 c = register-by Mfm Identifier _ (c .before .before .enum-told7 .given .1) (c .enum-told9 .given .1) refl
 
 returns-8 : tie.Need-returns-8
 unfolding edcOf bytesEntered byteEntered bitEntered
-returns-8 c = register-by Mfm Data _ (cc) (cc) refl
+returns-8 c = register-by Mfm Data _ (c .before .before .enum-told7 .given .1) (c .enum-told10 .given .1) refl
 
 returns-9 : tie.Need-returns-9
 unfolding edcOf bytesEntered byteEntered bitEntered
-returns-9 c = register-by Mfm Control _ (cc) (cc) refl
+returns-9 c = register-by Mfm Control _ (c .before .before .enum-told7 .given .1) (c .enum-told11 .given .1) refl
 
 returns-10 : tie.Need-returns-10
 unfolding edcOf bytesEntered byteEntered bitEntered
-returns-10 c = register-by Mfm Open _ (cc) (cc) refl
+returns-10 c = register-by Mfm Open _ (c .before .before .enum-told7 .given .1) (c .enum-told12 .given .1) refl
 
 pub register-after-spec : {M : Type 1} → statement M
 register-after-spec =

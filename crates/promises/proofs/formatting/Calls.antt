@@ -1,111 +1,162 @@
 -- The round trip through the calls: what format accepts reads back, and read does not refuse the image that format leaves.
-use mathlib.Core.Path.{_≡_, refl, _∙_}
+use mathlib.Core.Path.{_≡_, refl, sym, ap, subst, _∙_}
 use mathlib.Core.List.{List, [], _∷_, _++_}
-use Prim.Native.Nat.{ℕ, _≤_}
+use Prim.Native.Nat.{ℕ, _+_, _*_, _≤_}
 use native.Mathlib.Omega.{arith}
 use borrow.Author.Needs.{needs}
 use borrow.Author.Tests.{eq-eqb, ne-eqb, le-ltb}
 use lib.ListN.{length}
-use Rattle.format.specs.Order.{formatted}
-use Rattle.format.specs.Outcomes.{answered}
-use Rattle.format.specs.Refusals.{fieldTests, formatTests}
+use Rattle.cells.specs.Cells.{cell, Bytes}
+use Rattle.format.specs.Order.{Numbered, formatted}
+use Rattle.format.specs.Refusals.{formTests, contentTests, formatTests}
 use Rattle.format.specs.declared.Formatted.the-variants.{Written}
-use Rattle.format.proofs.Chosen.{accepted, Accepted}
+use Rattle.format.specs.declared.Formatted.the-variants as refusing
+use Rattle.format.proofs.Accepted.{Accepted, accepted}
 use Rattle.format.proofs.Judged.{passed-by}
-use Rattle.layouts.specs.Layouts.{Every}
-use Rattle.format.proofs.Parts.{slotted-numbers, length-numbers, length-fields}
-use Rattle.layouts.specs.Layouts.{highest, layoutOf, numbers}
-use Rattle.layouts.specs.Refusals.{refusal, longestImage, imageTest, areaTest, trackTests, readingTests}
+use Rattle.format.proofs.Parts.{slots, length-numbers, length-fields, numbered}
+use Rattle.layouts.specs.Layouts.{layoutOf, mostSectors, numbers, slotIn}
+use Rattle.layouts.specs.Refusals.{longestImage, imageTest, areaTest, trackTests, readingTests}
+use Rattle.layouts.specs.Tracks.{trackOf}
 use Rattle.layouts.specs.declared.Layout.{Layout}
-use Rattle.layouts.specs.declared.Checked.{Checked}
-use Rattle.layouts.specs.declared.Checked.the-variants.{Passed, Refused}
-use Rattle.layouts.proofs.Layouts.{layout-known}
-use Rattle.layouts.proofs.Refusals.{refusal-append-passed, passed-both, track-known}
-use Rattle.read.specs.Outcomes.{readTests, readAnswer, readArea}
-use Rattle.promises.specs.RoundTrip.{Byte, Legible, ReadsBack, ReadsBackAsWritten}
-use Rattle.promises.proofs.formatting.Trip.{round-trip, natural}
+use Rattle.layouts.specs.declared.Track.{Track}
+use Rattle.layouts.proofs.Layouts.{every-layout, adds}
+use Rattle.layouts.proofs.Refusals.{answer-passed}
+use Rattle.read.specs.Answers.{Sector, answerNumber, sectorOf, areaOf, recordsOf}
+use Rattle.read.specs.Outcomes.{unread, reading, readTests, readAnswer, readArea, Reads}
+use Rattle.read.specs.Picks.{recordAt}
+use Rattle.read.specs.declared.Reading.{Reading}
+use Rattle.read.specs.declared.Record.{Record}
+use Rattle.read.proofs.Passing.{modest}
+use Rattle.read.proofs.Recording.{length-sector}
+use Rattle.read.proofs.Sectors.{map-at, slots-at, length-slots}
+use Rattle.verdicts.specs.Tests.{Verdict, passed, refusal, by}
+use Rattle.verdicts.proofs.Tests.{clash, append-passed, passed-both, by-passed}
+use Rattle.walk.specs.Events.{blocks}
+use Rattle.walk.specs.Outcomes.{met}
+use Rattle.promises.specs.RoundTrip.{Legible, ReadsBack, HandsBack, ReadsBackAsWritten}
+use Rattle.promises.specs.Sectors.{sectorIn}
+use Rattle.promises.proofs.formatting.Trip.{OnePlace, one-place, round-trip, natural}
 
 -- ---- the layouts
 
 -- Every layout that has a number is legible,
-pub legible : (n : ℕ) → n ≤ highest → Legible (layoutOf n)
-legible = layout-known Legible (search needs) (search needs) (search needs) (search needs)
+pub legible : (n : ℕ) → Legible (layoutOf n)
+legible = every-layout Legible (search needs) (search needs) (search needs) (search needs)
 
 -- and its image is read.
 record Read (l : Layout) : Type 0 where
   some : 1 ≤ l .«image_bytes»
   short : l .«image_bytes» ≤ longestImage
 
-image-read : (n : ℕ) → n ≤ highest → Read (layoutOf n)
-image-read = layout-known Read (search needs) (search needs) (search needs) (search needs)
+image-read : (n : ℕ) → Read (layoutOf n)
+image-read = every-layout Read (search needs) (search needs) (search needs) (search needs)
 
 -- ---- the tests
 
 -- The tests of read pass where those of the track do, and image and area have lengths that are read.
-reading-passes : (layout cylinder side image area : ℕ) → refusal (trackTests layout cylinder side) ≡ Passed → 1 ≤ image → image ≤ longestImage
-    → area ≡ layoutOf layout .«area_bytes» → refusal (readTests layout cylinder side image area) ≡ Passed
+reading-passes : (layout cylinder side image area : ℕ) → refusal (trackTests layout cylinder side) ≡ passed → 1 ≤ image → image ≤ longestImage
+    → area ≡ layoutOf layout .«area_bytes» → refusal (readTests layout cylinder side image area) ≡ passed
 unfolding readTests readingTests refusal
 reading-passes layout cylinder side image area t some short e =
-    let a = refusal-append-passed (trackTests layout cylinder side) (imageTest image ∷ []) t in
+    let a = append-passed (trackTests layout cylinder side) (imageTest image ∷ []) t in
     let b = passed-by (imageTest image) [] (rw (ne-eqb image 0 (λ z. omega arith), le-ltb longestImage image short)) in
     let d = passed-by (areaTest (layoutOf layout .«area_bytes») area) [] (rw (eq-eqb area (layoutOf layout .«area_bytes») e)) in
-    refusal-append-passed (trackTests layout cylinder side ++ (imageTest image ∷ [])) _ (a ∙ b) ∙ d
+    append-passed (trackTests layout cylinder side ++ (imageTest image ∷ [])) _ (a ∙ b) ∙ d
+
+-- ---- what read hands back of a sector
+
+module _ (t : Track) (image : List ℕ) (s : ℕ) (low : 1 ≤ s) (high : s ≤ t .layout .sectors) where
+  -- Its record,
+  pub record-read : t .layout .sectors ≤ mostSectors → recordAt (reading t image .records) s ≡ sectorIn t image s .known
+  unfolding recordsOf
+  record-read few = map-at (λ x. sectorIn t image x .known) unread mostSectors 1 s low (omega arith)
+
+  -- and its slot in the area.
+  pub slot-read : (area : List ℕ) → area ≡ areaOf t (cell image) (8 * length image) (met t image)
+      → slotIn (t .layout .size) s area ≡ sectorIn t image s .slot
+  unfolding areaOf
+  slot-read area e =
+      ap (slotIn (t .layout .size) s) e
+      ∙ slots-at (t .layout .size) (λ x. sectorIn t image x .slot) (λ x. length-sector t (cell image) (8 * length image) (met t image) x)
+      (t .layout .sectors) 1 s low (omega arith)
+
+-- The area has a slot for each sector.
+pub length-read : (t : Track) (image area : List ℕ) → area ≡ areaOf t (cell image) (8 * length image) (met t image)
+    → length area ≡ t .layout .sectors * t .layout .size
+unfolding areaOf
+length-read t image area e =
+    ap length e
+    ∙ length-slots (t .layout .size) (λ x. sectorIn t image x .slot) (λ x. length-sector t (cell image) (8 * length image) (met t image) x)
+    (t .layout .sectors) 1
 
 -- ---- the calls
 
 -- The image that format leaves where it does not refuse.
-abbrev pub written : (layout cylinder side : ℕ) → (contents marks : List ℕ) → List ℕ
-written layout cylinder side contents marks =
-    formatted (layoutOf layout) cylinder side contents marks (numbers (layoutOf layout .sectors) 1)
+abbrev pub written : Track → (contents marks : List ℕ) → List ℕ
+written t contents marks = formatted t contents marks (numbers (t .layout .sectors) 1)
 
-module _ (layout cylinder side : ℕ) (contents marks : List ℕ) (given : ℕ) (all : Every Byte contents)
-    (passed : refusal (formatTests layout cylinder side contents marks given) ≡ Passed) where
-  track-passed : refusal (trackTests layout cylinder side) ≡ Passed
-  unfolding formatTests
-  track-passed = passed-both (trackTests layout cylinder side) (fieldTests (layoutOf layout) cylinder contents marks given) passed .0
+module _ (layout cylinder side : ℕ) (contents marks : List ℕ) (given : ℕ) (all : Bytes contents)
+    (passes : refusal (formatTests layout cylinder side contents marks given) ≡ passed) where
+  abbrev t : Track
+  t = trackOf layout cylinder side
 
-  numbered : layout ≤ highest
-  numbered = track-known layout cylinder side track-passed .0
+  track-passed : refusal (trackTests layout cylinder side) ≡ passed
+  unfolding formatTests formTests
+  track-passed = passed-both (trackTests layout cylinder side) _ (passed-both (formTests layout cylinder side given) _ passes .0) .0
 
-  known : Accepted layout cylinder side contents marks given (layoutOf layout)
-  known = accepted layout cylinder side contents marks given _ (layoutOf layout) refl (rw passed)
+  known : Accepted layout cylinder side contents marks given
+  known = accepted layout cylinder side contents marks given passes
 
   -- What format accepts reads back.
-  pub accepted-trip : ReadsBack (layoutOf layout) cylinder side contents marks (numbers (layoutOf layout .sectors) 1)
-      (written layout cylinder side contents marks)
+  pub accepted-trip : ReadsBack t contents marks (numbers (layoutOf layout .sectors) 1) (written t contents marks)
   accepted-trip =
-      let l = layoutOf layout in
       let k = known in
       let cylinders = k .cylinders in
       let sides = k .sides in
-      round-trip l (legible layout numbered) cylinder side (omega arith) (omega arith) contents marks all (k .area)
-      (numbers (l .sectors) 1) (natural l)
+      round-trip t (legible layout) (omega arith) (omega arith) contents marks all (k .area) (numbers (layoutOf layout .sectors) 1)
+      (natural (layoutOf layout))
+
+  -- Each of its sectors has one block.
+  pub accepted-place : (s : ℕ) → Numbered (layoutOf layout) s → OnePlace (blocks s (met t (written t contents marks)))
+  accepted-place s h =
+      let k = known in
+      let cylinders = k .cylinders in
+      let sides = k .sides in
+      one-place t (legible layout) (omega arith) (omega arith) contents marks all (k .area) (numbers (layoutOf layout .sectors) 1)
+      (natural (layoutOf layout)) s h
 
   -- And read does not refuse it.
-  pub accepted-read :
-      refusal (readTests layout cylinder side (length (written layout cylinder side contents marks)) (layoutOf layout .«area_bytes»)) ≡ Passed
+  pub accepted-read : refusal (readTests layout cylinder side (length (written t contents marks)) (layoutOf layout .«area_bytes»)) ≡ passed
   accepted-read =
       let l = layoutOf layout in
-      let k = known in
-      let whole = length-fields l cylinder side contents marks (numbers (l .sectors) 1) (length-numbers (l .sectors) 1)
-      (slotted-numbers (l .sectors) (l .size) contents (k .area)) in
-      let same = k .serves .whole in
-      let r = image-read layout numbered in
-      reading-passes layout cylinder side _ _ track-passed (omega (arith, whole, same, r .some)) (omega (arith, whole, same, r .short)) refl
-
--- An answer `Written` comes from tests that pass.
-written-passed : (r : Checked) → Written ≡ answered r → r ≡ Passed
-written-passed Passed e = refl
-written-passed (Refused f) e = let z : _≡_ {A = ℕ} 0 1 = cc in absurd (omega arith)
+      let whole = length-fields t contents marks (numbers (l .sectors) 1) (length-numbers (l .sectors) 1)
+      (slots l contents (known .area) (numbers (l .sectors) 1) (numbered l)) in
+      let sums = adds layout in
+      let r = image-read layout in
+      reading-passes layout cylinder side _ _ track-passed (omega (arith, whole, sums, r .some)) (omega (arith, whole, sums, r .short)) refl
 
 -- What format writes, read hands back.
 pub format-then-read : ReadsBackAsWritten
-unfolding readAnswer readArea
+unfolding readAnswer readArea by
 format-then-read layout cylinder side contents marks before image answer area all formats reads =
-    let passed = written-passed (refusal (formatTests layout cylinder side contents marks (length before))) (formats .answers) in
-    let same : image ≡ written layout cylinder side contents marks = formats .leaves ∙ rw passed in
-    let back = accepted-trip layout cylinder side contents marks (length before) all passed in
-    let read = accepted-read layout cylinder side contents marks (length before) all passed in (
-      reads .answers ∙ rw (same, read, back .records, back .bad, back .foreign),
-      reads .leaves ∙ rw (same, read, back .area),
-    )
+    let t = trackOf layout cylinder side in
+    let passes = by-passed Written refusing.Refused (λ f e. clash cc) (λ g f e. cc)
+    (refusal (formatTests layout cylinder side contents marks (length before))) Written (formats .answers) refl in
+    let same : image ≡ written t contents marks = formats .leaves ∙ rw passes in
+    let back = accepted-trip layout cylinder side contents marks (length before) all passes in
+    let read = accepted-read layout cylinder side contents marks (length before) all passes in
+    let told : answer ≡ reading t image = reads .answers ∙ rw (same, read) in
+    let left : area ≡ areaOf t (cell image) (8 * length image) (met t image) = reads .leaves ∙ rw (same, read) in
+    let back-so = subst (λ (x : List ℕ). ReadsBack t contents marks (numbers (layoutOf layout .sectors) 1) x) (sym same) back in
+    record {
+      accepted = ap (λ (r : Reading). r .verdict) told;
+      counted = ap (λ (r : Reading). r .sectors) told;
+      bad = ap (λ (r : Reading). r .bad) told ∙ back-so .bad;
+      foreign = ap (λ (r : Reading). r .foreign) told ∙ back-so .foreign;
+      answers = λ s h.
+          ap (λ (r : Reading). answerNumber (recordAt (r .records) s .answer)) told
+          ∙ ap (λ (r : Record). answerNumber (r .answer)) (record-read t image s (h .0) (h .1) (modest layout .1))
+          ∙ back-so .sectors s h .answers;
+      slots = λ s h. slot-read t image s (h .0) (h .1) area left ∙ back-so .sectors s h .holds;
+      whole = length-read t image area left;
+    }

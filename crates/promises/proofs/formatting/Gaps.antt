@@ -17,9 +17,9 @@ use Rattle.layouts.specs.Layouts.{gapByte}
 use Rattle.marks.specs.Marks.{string, markByte}
 use Rattle.marks.specs.declared.Mark.{Mark}
 use Rattle.marks.specs.declared.Mark.the-variants.{Index, Identifier, Data, Control, Open}
-use Rattle.marks.proofs.Searching.{le-or-lt}
+use Rattle.search.proofs.Searching.{le-or-lt}
 use Rattle.marks.proofs.Spelling.{string-two, Stand}
-use Rattle.read.specs.Walk.{markCells}
+use Rattle.marks.specs.Marks.{markCells}
 use Rattle.promises.proofs.formatting.Standing.{On, on-run, stand-append}
 use Rattle.promises.proofs.formatting.Quiet.{Clear, Quiet, quiet-none, quiet-join, hits, clear-by, clear-beyond, calm, Calm, quiet-calm}
 

@@ -18,7 +18,7 @@ use Rattle.cells.proofs.Table.{all, all-at}
 use Rattle.marks.specs.Marks.{string, stands}
 use Rattle.marks.specs.declared.Mark.{Mark}
 use Rattle.marks.specs.declared.Mark.the-variants.{Index, Identifier, Data, Control, Open}
-use Rattle.marks.proofs.Searching.{searchable, le-or-lt}
+use Rattle.search.proofs.Searching.{searchable, le-or-lt}
 use Rattle.marks.proofs.Spelling.{string-two, Stand, stands-bytes, lies-beyond, is-false}
 
 -- ---- what it means

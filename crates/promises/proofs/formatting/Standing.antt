@@ -7,7 +7,7 @@ use native.Mathlib.Nat.{add-assoc, add-zero, zero-add}
 use native.Mathlib.Omega.{arith}
 use lib.Dec.{lit<}
 use lib.ListN.{length, getD, take, drop}
-use Rattle.cells.specs.Cells.{cell, octet, dataBytes}
+use Rattle.cells.specs.Cells.{cell, octet, dataBytes, Bytes}
 use Rattle.cells.specs.declared.Mode.{Mode}
 use Rattle.cells.specs.declared.Mode.the-variants.{Fm, Mfm}
 use Rattle.cells.proofs.Coding.{read-back, high-lt, low-lt}
@@ -15,36 +15,13 @@ use Rattle.cells.proofs.Digits.{bit-lt}
 use Rattle.cells.proofs.Joined.{aligned}
 use Rattle.format.specs.Order.{Symbol, plain, mark, image, run, bytes}
 use Rattle.layouts.specs.Layouts.{Every}
-use Rattle.format.proofs.Symbols.{length-string}
+use Rattle.marks.proofs.Spelling.{string-width}
 use Rattle.marks.specs.Marks.{string, markByte}
 use Rattle.marks.specs.declared.Mark.{Mark}
 use Rattle.marks.specs.declared.Mark.the-variants.{Index, Identifier, Data, Control, Open}
 use Rattle.marks.proofs.Spelling.{Stand}
-use Rattle.read.specs.Walk.{markCells}
-use Rattle.promises.specs.RoundTrip.{Byte}
-
--- ---- bytes
-
--- Two lists of bytes are one, and the parts of such a list are such lists.
-pub every-append : (xs ys : List ℕ) → Every Byte xs → Every Byte ys → Every Byte (xs ++ ys)
-every-append [] ys f g = g
-every-append (x ∷ xs) ys f g = (f .0, every-append xs ys (f .1) g)
-
-pub every-take : (k : ℕ) (xs : List ℕ) → Every Byte xs → Every Byte (take k xs)
-every-take zero xs f = tt
-every-take (suc k) [] f = tt
-every-take (suc k) (x ∷ xs) f = (f .0, every-take k xs (f .1))
-
-pub every-drop : (k : ℕ) (xs : List ℕ) → Every Byte xs → Every Byte (drop k xs)
-every-drop zero xs f = f
-every-drop (suc k) [] f = tt
-every-drop (suc k) (x ∷ xs) f = every-drop k xs (f .1)
-
--- Past the end of a list stands 0, a byte too.
-every-at : (xs : List ℕ) (i : ℕ) → Every Byte xs → getD xs i 0 < 256
-every-at [] i f = lit< tt
-every-at (x ∷ xs) zero f = f .0
-every-at (x ∷ xs) (suc i) f = every-at xs i (f .1)
+use Rattle.marks.specs.Marks.{markCells}
+use Rattle.cells.proofs.Bytes.{bytes-append, byte-at}
 
 -- Two strings of bytes that stand one behind the other.
 pub stand-append : (c : ℕ → ℕ) (p : ℕ) (xs ys : List ℕ) → Stand c p (xs ++ ys) → Stand c p xs × Stand c (p + 8 * length xs) ys
@@ -83,11 +60,11 @@ module _ (mode : Mode) (c : ℕ → ℕ) where
   unfolding image
   on-mark p m ss o =
       let both = stand-append c p (string mode m) (image mode (markByte m % 2) ss) (o .2) in
-      let e : p + 8 * length (string mode m) ≡ p + markCells mode = omega (arith, length-string mode m) in
+      let e : p + 8 * length (string mode m) ≡ p + markCells mode = omega (arith, string-width mode m) in
       (both .0, (markByte m % 2, bit-lt (markByte m), rw e at (both .1)))
 
   -- Bytes are read back.
-  pub on-bytes : ((i : ℕ) → c i < 2) → (p : ℕ) (xs : List ℕ) (ss : List Symbol) → Every Byte xs → On mode c p (bytes xs ss)
+  pub on-bytes : ((i : ℕ) → c i < 2) → (p : ℕ) (xs : List ℕ) (ss : List Symbol) → Bytes xs → On mode c p (bytes xs ss)
       → (dataBytes c p (length xs) ≡ xs) × On mode c (p + 16 * length xs) ss
   unfolding bytes dataBytes image
   on-bytes bit p [] ss f o = (refl, rw add-zero o)
@@ -99,7 +76,7 @@ module _ (mode : Mode) (c : ℕ → ℕ) where
 -- ---- an image
 
 -- The marks' strings are bytes.
-string-bytes : (mode : Mode) (m : Mark) → Every Byte (string mode m)
+pub string-bytes : (mode : Mode) (m : Mark) → Bytes (string mode m)
 string-bytes Fm Index = omega arith
 string-bytes Fm Identifier = omega arith
 string-bytes Fm Data = omega arith
@@ -112,12 +89,12 @@ string-bytes Mfm Control = omega arith
 string-bytes Mfm Open = omega arith
 
 -- All of an image is.
-image-bytes : (mode : Mode) (a : ℕ) (ss : List Symbol) → Every Byte (image mode a ss)
+image-bytes : (mode : Mode) (a : ℕ) (ss : List Symbol) → Bytes (image mode a ss)
 unfolding image
 image-bytes mode a [] = tt
 image-bytes mode a (plain x ∷ ss) = (high-lt mode a x, (low-lt mode x, image-bytes mode (x % 2) ss))
 image-bytes mode a (mark m ∷ ss) =
-    every-append (string mode m) (image mode (markByte m % 2) ss) (string-bytes mode m) (image-bytes mode (markByte m % 2) ss)
+    bytes-append (string mode m) (image mode (markByte m % 2) ss) (string-bytes mode m) (image-bytes mode (markByte m % 2) ss)
 
 -- Where each octet is the list's byte, the list stands.
 stand-of : (c : ℕ → ℕ) (p : ℕ) (xs : List ℕ) → ((i : ℕ) → octet c (p + 8 * i) ≡ getD xs i 0) → Stand c p xs
@@ -132,4 +109,4 @@ pub on-image : (mode : Mode) (ss : List Symbol) → On mode (cell (image mode 0 
 on-image mode ss =
     let s = image mode 0 ss in
     let f = image-bytes mode 0 ss in
-    (0, lit< tt, stand-of (cell s) 0 s (λ i. rw zero-add (aligned s i (every-at s i f) (every-at s (i + 1) f))))
+    (0, lit< tt, stand-of (cell s) 0 s (λ i. rw zero-add (aligned s i (byte-at s i f) (byte-at s (i + 1) f))))

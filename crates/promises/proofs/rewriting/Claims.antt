@@ -8,20 +8,22 @@ use native.Mathlib.Omega.{arith}
 use borrow.Author.Tests.{eqb-true, leb-true}
 use lib.Dec.{eqb, leb}
 use Rattle.layouts.specs.declared.Layout.{Layout}
+use Rattle.layouts.specs.declared.Track.{Track}
 use Rattle.marks.specs.Marks.{stands}
-use Rattle.marks.specs.Search.{among, some}
+use Rattle.search.specs.Search.{among, isStanding}
 use Rattle.marks.specs.declared.Mark.{Mark}
 use Rattle.marks.specs.declared.Mark.the-variants.{Index, Identifier, Data, Control, Open}
-use Rattle.marks.specs.declared.Found.the-variants.{At}
-use Rattle.marks.proofs.Firsts.{first-known}
-use Rattle.read.specs.Walk.{identifierMarks, eitherMarks, blockMarks, blockCells, round, follow, walk, events}
-use Rattle.read.specs.Answers.{blocks}
-use Rattle.read.specs.declared.Block.{Block}
-use Rattle.read.specs.declared.Block.the-variants.{Missing, Beyond, Within}
-use Rattle.read.specs.declared.Event.{Event}
-use Rattle.read.specs.declared.Event.the-variants.{Bad, Foreign, Accepted}
-use Rattle.read.specs.declared.Round.{Round}
-use Rattle.read.proofs.Ways.{rest, identifier, either, Read, Took, Way, none, short, wrong, other, lost, again, block, cut, view}
+use Rattle.search.specs.declared.Found.the-variants.{At}
+use Rattle.search.proofs.Firsts.{first-known}
+use Rattle.search.specs.Search.{identifierMarks, eitherMarks, blockMarks}
+use Rattle.walk.specs.Walk.{blockCells, round, follow, walk, events}
+use Rattle.walk.specs.Events.{blocks}
+use Rattle.walk.specs.declared.Block.{Block}
+use Rattle.walk.specs.declared.Block.the-variants.{Missing, Beyond, Within}
+use Rattle.walk.specs.declared.Event.{Event}
+use Rattle.walk.specs.declared.Event.the-variants.{Bad, Foreign, Accepted}
+use Rattle.walk.specs.declared.Round.{Round}
+use Rattle.walk.proofs.Ways.{rest, identifier, either, Read, Took, Way, none, short, wrong, other, lost, again, block, cut, view}
 use Rattle.promises.proofs.rewriting.Searches.{some-there}
 use Rattle.promises.proofs.rewriting.Rounds.{identifier-low, either-low}
 
@@ -34,7 +36,7 @@ Claims s m (Accepted x Missing ∷ es) = Claims s m es
 Claims s m (Accepted x (Beyond p) ∷ es) = Claims s m es
 Claims s m (Accepted x (Within p) ∷ es) = ((x ≡ s) × (p ≡ m)) ⊎ Claims s m es
 
-claims-later : (s m : ℕ) (e : Event) (es : List Event) → Claims s m es → Claims s m (e ∷ es)
+pub claims-later : (s m : ℕ) (e : Event) (es : List Event) → Claims s m es → Claims s m (e ∷ es)
 claims-later s m Bad es h = h
 claims-later s m Foreign es h = h
 claims-later s m (Accepted x Missing) es h = h
@@ -68,15 +70,15 @@ pub record Led (l : Layout) (c : ℕ → ℕ) (n m q : ℕ) : Type 0 where
   pub lead : ℕ
   pub low : q ≤ lead
   pub high : rest l lead ≤ m
-  pub holds : some (l .mode) c n eitherMarks lead ≡ true
+  pub holds : isStanding (l .mode) c n eitherMarks lead ≡ true
   pub placed : Placed l c n m
 
-module _ (l : Layout) (cylinder side : ℕ) (c : ℕ → ℕ) (n : ℕ) where
+module _ (t : Track) (c : ℕ → ℕ) (n : ℕ) where
   -- What step 1 finds, step 3 would find too.
-  identifier-some : (p i : ℕ) (k : Mark) → identifier l cylinder side c n p ≡ At i k → some (l .mode) c n eitherMarks i ≡ true
+  identifier-some : (p i : ℕ) (k : Mark) → identifier t c n p ≡ At i k → isStanding (t .layout .mode) c n eitherMarks i ≡ true
   identifier-some p i k e =
-      let t = first-known (l .mode) c n identifierMarks p n i k e .there in
-      some-there (l .mode) c n eitherMarks k i (t .standing-there) (by k (t .looked))
+      let found = first-known (t .layout .mode) c n identifierMarks p n i k e .there in
+      some-there (t .layout .mode) c n eitherMarks k i (found .standing-there) (by k (found .looked))
     where
       by : (k : Mark) → among identifierMarks k ≡ true → among eitherMarks k ≡ true
       by Index e = e
@@ -86,45 +88,45 @@ module _ (l : Layout) (cylinder side : ℕ) (c : ℕ → ℕ) (n : ℕ) where
       by Open e = refl
 
   module _ (s m : ℕ) where
-    led-at : (p i : ℕ) (k : Mark) → identifier l cylinder side c n p ≡ At i k → rest l i ≤ m → Placed l c n m → Led l c n m p
+    led-at : (p i : ℕ) (k : Mark) → identifier t c n p ≡ At i k → rest (t .layout) i ≤ m → Placed (t .layout) c n m → Led (t .layout) c n m p
     led-at p i k e u P =
-        record { lead = i; low = identifier-low l cylinder side c n p i k e; high = u; holds = identifier-some p i k e; placed = P }
+        record { lead = i; low = identifier-low t c n p i k e; high = u; holds = identifier-some p i k e; placed = P }
 
-    led-later : {p i : ℕ} {b : Bool} → Read l cylinder side c n p i b → (q : ℕ) → i ≤ q → Led l c n m q → Led l c n m p
+    led-later : {p i : ℕ} {b : Bool} → Read t c n p i b → (q : ℕ) → i ≤ q → Led (t .layout) c n m q → Led (t .layout) c n m p
     led-later {p} {i} r q u f = led-at p i (r .kind) (r .place) (omega arith) (f .placed)
 
-    led-here : {p i : ℕ} → Took l cylinder side c n p i → (b : ℕ) (k : Mark) → either l cylinder side c n (rest l i) ≡ At b k
-        → among blockMarks k ≡ true → leb (b + blockCells l) n ≡ true → b ≡ m → Led l c n m p
-    led-here {p} {i} t b k e s h z =
-        led-at p i (t .read .kind) (t .read .place) (omega (arith, either-low l cylinder side c n (rest l i) b k e))
+    led-here : {p i : ℕ} → Took t c n p i → (b : ℕ) (k : Mark) → either t c n (rest (t .layout) i) ≡ At b k
+        → among blockMarks k ≡ true → leb (b + blockCells (t .layout)) n ≡ true → b ≡ m → Led (t .layout) c n m p
+    led-here {p} {i} took b k e s h z =
+        led-at p i (took .read .kind) (took .read .place) (omega (arith, either-low t c n (rest (t .layout) i) b k e))
         (record {
           kind = k;
           of-block = s;
-          there = rw z at (first-known (l .mode) c n eitherMarks (rest l i) _ b k e .there .standing-there);
-          room = omega (arith, leb-true (b + blockCells l) n h);
+          there = rw z at (first-known (t .layout .mode) c n eitherMarks (rest (t .layout) i) _ b k e .there .standing-there);
+          room = omega (arith, leb-true (b + blockCells (t .layout)) n h);
         })
 
-    led-step : (next : ℕ → List Event) → ((q : ℕ) → Claims s m (next q) → Led l c n m q)
-        → (p : ℕ) (o : Round) → Way l cylinder side c n p o → Claims s m (follow l cylinder side c n next o) → Led l c n m p
+    led-step : (next : ℕ → List Event) → ((q : ℕ) → Claims s m (next q) → Led (t .layout) c n m q)
+        → (p : ℕ) (o : Round) → Way t c n p o → Claims s m (follow t c n next o) → Led (t .layout) c n m p
     unfolding follow
     led-step next ih p o (none e) h = absurd h
     led-step next ih p o (short i k e u) h = absurd h
     led-step next ih p o (wrong i r) h = led-later r _ (omega arith) (ih _ h)
     led-step next ih p o (other i r x) h = led-later r _ (omega arith) (ih _ h)
-    led-step next ih p o (lost i t e) h = led-later (t .read) _ (omega arith) (ih _ h)
-    led-step next ih p o (again i b k t e s) h = led-later (t .read) _ (omega arith) (ih _ h)
-    led-step next ih p o (block i b k t e s u) (inl z) = led-here t b k e s u (z .1)
-    led-step next ih p o (block i b k t e s u) (inr h) =
-        led-later (t .read) _ (omega (arith, either-low l cylinder side c n (rest l i) b k e)) (ih _ h)
-    led-step next ih p o (cut i b k t e s u) h = led-later (t .read) _ (omega (arith, leb-true (rest l i) n (t .read .room))) (ih _ h)
+    led-step next ih p o (lost i took e) h = led-later (took .read) _ (omega arith) (ih _ h)
+    led-step next ih p o (again i b k took e s) h = led-later (took .read) _ (omega arith) (ih _ h)
+    led-step next ih p o (block i b k took e s u) (inl z) = led-here took b k e s u (z .1)
+    led-step next ih p o (block i b k took e s u) (inr h) =
+        led-later (took .read) _ (omega (arith, either-low t c n (rest (t .layout) i) b k e)) (ih _ h)
+    led-step next ih p o (cut i b k took e s u) h = led-later (took .read) _ (omega (arith, leb-true (rest (t .layout) i) n (took .read .room))) (ih _ h)
 
-    pub led : (k p : ℕ) → Claims s m (walk l cylinder side c n k p) → Led l c n m p
+    pub led : (k p : ℕ) → Claims s m (walk t c n k p) → Led (t .layout) c n m p
     unfolding walk
     led zero p h = absurd h
-    led (suc k) p h = led-step (walk l cylinder side c n k) (led k) p (round l cylinder side c n p) (view l cylinder side c n p) h
+    led (suc k) p h = led-step (walk t c n k) (led k) p (round t c n p) (view t c n p) h
 
     -- At the place of a block that the whole walk claims stands a mark of a block, and the block is within the image.
-    pub claimed-placed : Claims s m (events l cylinder side c n) → Placed l c n m
+    pub claimed-placed : Claims s m (events t c n) → Placed (t .layout) c n m
     unfolding events
     claimed-placed h = led n 0 h .placed
 
@@ -132,28 +134,28 @@ module _ (l : Layout) (cylinder side : ℕ) (c : ℕ → ℕ) (n : ℕ) where
 
   -- They are one block of one sector, or lie apart.
   abbrev pub Apart : ℕ → ℕ → ℕ → ℕ → Type 0
-  Apart s m x p = ((s ≡ x) × (m ≡ p)) ⊎ ((m + blockCells l ≤ p) ⊎ (p + blockCells l ≤ m))
+  Apart s m x p = ((s ≡ x) × (m ≡ p)) ⊎ ((m + blockCells (t .layout) ≤ p) ⊎ (p + blockCells (t .layout) ≤ m))
 
   apart-step : (s m x p : ℕ) (next : ℕ → List Event) → ((r : ℕ) → Claims s m (next r) → Claims x p (next r) → Apart s m x p)
       → ((z y r : ℕ) → Claims z y (next r) → r ≤ y)
-      → (q : ℕ) (o : Round) → Way l cylinder side c n q o
-      → Claims s m (follow l cylinder side c n next o) → Claims x p (follow l cylinder side c n next o) → Apart s m x p
+      → (q : ℕ) (o : Round) → Way t c n q o
+      → Claims s m (follow t c n next o) → Claims x p (follow t c n next o) → Apart s m x p
   unfolding follow
   apart-step s m x p next ih low q o (none e) h g = absurd h
   apart-step s m x p next ih low q o (short i k e u) h g = absurd h
   apart-step s m x p next ih low q o (wrong i r) h g = ih _ h g
   apart-step s m x p next ih low q o (other i r u) h g = ih _ h g
-  apart-step s m x p next ih low q o (lost i t e) h g = ih _ h g
-  apart-step s m x p next ih low q o (again i b k t e d) h g = ih _ h g
-  apart-step s m x p next ih low q o (block i b k t e d u) (inl a) (inl v) = inl (cc, cc)
-  apart-step s m x p next ih low q o (block i b k t e d u) (inl a) (inr g) = inr (inl (rw (a .1) at (low x p _ g)))
-  apart-step s m x p next ih low q o (block i b k t e d u) (inr h) (inl v) = inr (inr (rw (v .1) at (low s m _ h)))
-  apart-step s m x p next ih low q o (block i b k t e d u) (inr h) (inr g) = ih _ h g
-  apart-step s m x p next ih low q o (cut i b k t e d u) h g = ih _ h g
+  apart-step s m x p next ih low q o (lost i took e) h g = ih _ h g
+  apart-step s m x p next ih low q o (again i b k took e d) h g = ih _ h g
+  apart-step s m x p next ih low q o (block i b k took e d u) (inl a) (inl v) = inl (cc, cc)
+  apart-step s m x p next ih low q o (block i b k took e d u) (inl a) (inr g) = inr (inl (rw (a .1) at (low x p _ g)))
+  apart-step s m x p next ih low q o (block i b k took e d u) (inr h) (inl v) = inr (inr (rw (v .1) at (low s m _ h)))
+  apart-step s m x p next ih low q o (block i b k took e d u) (inr h) (inr g) = ih _ h g
+  apart-step s m x p next ih low q o (cut i b k took e d u) h g = ih _ h g
 
-  pub apart : (s m x p k q : ℕ) → Claims s m (walk l cylinder side c n k q) → Claims x p (walk l cylinder side c n k q) → Apart s m x p
+  pub apart : (s m x p k q : ℕ) → Claims s m (walk t c n k q) → Claims x p (walk t c n k q) → Apart s m x p
   unfolding walk
   apart s m x p zero q h g = absurd h
   apart s m x p (suc k) q h g =
-      apart-step s m x p (walk l cylinder side c n k) (apart s m x p k) (λ z y r f. omega (arith, led z y k r f)) q (round l cylinder side c n q)
-      (view l cylinder side c n q) h g
+      apart-step s m x p (walk t c n k) (apart s m x p k) (λ z y r f. omega (arith, led z y k r f)) q (round t c n q)
+      (view t c n q) h g

@@ -8,7 +8,7 @@ use lib.ListN.{length, getD, take, length-set}
 use lib.Seq.{take-suc, take-length}
 use Rattle.layouts.specs.declared.Layout.{Layout}
 use Rattle.marks.specs.declared.Mark.{Mark}
-use Rattle.rewrite.specs.Stores.{stored, none, stores, storeCount}
+use Rattle.rewrite.specs.Stores.{stored, noStore, stores, storeCount}
 use Rattle.promises.specs.Cuts.{storedAll, cut, finished}
 use Rattle.rewrite.specs.declared.Store.{Store}
 use Rattle.rewrite.proofs.Listed.{stores-count, Kind, kind}
@@ -22,7 +22,7 @@ all-append image (x ∷ xs) ys = all-append (stored image x) xs ys
 length-all : (image : List ℕ) (xs : List Store) → length (storedAll image xs) ≡ length image
 unfolding storedAll
 length-all image [] = refl
-length-all image (x ∷ xs) = length-all (stored image x) xs ∙ length-set image (x .place) (x .value)
+length-all image (x ∷ xs) = length-all (stored image x) xs ∙ length-set image (x .byte) (x .value)
 
 module _ (l : Layout) (image : List ℕ) (place : ℕ) (mark : Mark) (contents : List ℕ) where
   abbrev list : List Store
@@ -40,21 +40,21 @@ module _ (l : Layout) (image : List ℕ) (place : ℕ) (mark : Mark) (contents :
   unfolding cut storedAll
   cut-none = refl
 
-  cut-next : (j : ℕ) → j < length list → now (suc j) ≡ stored (now j) (getD list j none)
+  cut-next : (j : ℕ) → j < length list → now (suc j) ≡ stored (now j) (getD list j noStore)
   unfolding cut storedAll
-  cut-next j h = ap (storedAll image) (take-suc list j none h) ∙ all-append image (take j list) (getD list j none ∷ [])
+  cut-next j h = ap (storedAll image) (take-suc list j noStore h) ∙ all-append image (take j list) (getD list j noStore ∷ [])
 
   pub cut-all : now (length list) ≡ finished l image place mark contents
   unfolding cut finished
   cut-all = ap (storedAll image) (take-length list)
 
   module _ (whole : length contents ≡ l .size) where
-    pub cut-step : (j : ℕ) → j < storeCount l place (length image) → now (suc j) ≡ stored (now j) (getD list j none)
+    pub cut-step : (j : ℕ) → j < storeCount l place (length image) → now (suc j) ≡ stored (now j) (getD list j noStore)
     cut-step j h = cut-next j (rw (stores-count l image place mark contents whole) h)
 
     -- Store j is of its kind in the image that j stores left, too: its list is the first image's.
     moved : (j : ℕ) → j < storeCount l place (length image) → stores l (now j) place mark contents ≡ list
-        → Kind l (now j) place mark contents j (getD list j none)
+        → Kind l (now j) place mark contents j (getD list j noStore)
     moved j h e = rw (← e) (kind l (now j) place mark contents whole j (rw (length-cut j) h))
 
     -- Every rewrite of the block has on a cut the list that it has on the first image.
@@ -67,4 +67,4 @@ module _ (l : Layout) (image : List ℕ) (place : ℕ) (mark : Mark) (contents :
             → stores l (now (suc j)) place other bytes ≡ stores l image place other bytes
         go ih =
             rw (cut-step j h)
-            (stores-fixed l (now j) place mark contents other bytes j (getD list j none) (moved j h (ih mark contents)) ∙ ih other bytes)
+            (stores-fixed l (now j) place mark contents other bytes j (getD list j noStore) (moved j h (ih mark contents)) ∙ ih other bytes)

@@ -1,18 +1,21 @@
 -- Demand 3 is met: starting again on what a cut left ends as an uncut rewrite does, and so all of it holds of every accepted request.
 use mathlib.Core.Path.{_≡_, sym, ap, subst, _∙_}
-use mathlib.Core.List.{List}
+use mathlib.Core.List.{List, [], _∷_}
 use Prim.Native.Nat.{ℕ, _*_, _≤_}
 use native.Mathlib.Omega.{arith}
 use lib.ListN.{length}
-use Rattle.cells.specs.Cells.{cell}
+use Rattle.cells.specs.Cells.{cell, Bytes}
 use Rattle.layouts.specs.Layouts.{layoutOf}
+use Rattle.layouts.specs.Tracks.{trackOf}
 use Rattle.marks.specs.Marks.{markOf}
 use Rattle.rewrite.specs.Stores.{storeCount}
 use Rattle.rewrite.specs.Outcomes.{Requests}
 use Rattle.promises.specs.Cuts.{cut, finished}
-use Rattle.promises.specs.Rewriting.{Bytes, Fit, Ran, number, Stepwise, Survives, StartsAgain, Demand3}
+use Rattle.promises.specs.Rewriting.{Fit, Ran, number, Stepwise, Survives, StartsAgain, Demand3}
 use Rattle.rewrite.specs.declared.Plan.{Plan}
 use Rattle.rewrite.specs.declared.Requested.the-variants as request
+use Rattle.walk.specs.declared.Block.{Block}
+use Rattle.walk.specs.declared.Block.the-variants.{Within}
 use Rattle.promises.proofs.rewriting.Answers.{found-again}
 use Rattle.rewrite.proofs.Listed.{stores-count}
 use Rattle.promises.proofs.rewriting.Cutting.{length-cut, cut-all}
@@ -49,23 +52,45 @@ module _ (layout cylinder side sector mark : ℕ) (contents image : List ℕ) (m
         low = S .low;
         numbered = S .numbered;
         measured = rw e (S .measured);
-        alone = rw e (found-again (layoutOf layout) cylinder side (cell image) (cell now) (8 * length image) m
+        alone = rw e (found-again (trackOf layout cylinder side) (cell image) (cell now) (8 * length image) m
             (rewritten layout cylinder side sector mark contents image m S F j h) sector (S .alone));
         boundary = S .boundary;
       }
 
-  starts-again : (newMark : ℕ) (newContents : List ℕ) → Fit layout cylinder newMark newContents
-      → StartsAgain layout cylinder side sector (record { layout = layout; place = m; made = 0 }) image now newMark newContents
-  starts-again newMark newContents fit =
-      record {
-        accepted = accepts layout cylinder side sector now newMark newContents m sited-again fit;
-        uncut = accepts layout cylinder side sector image newMark newContents m S fit;
-        ends = λ held other end whole r q.
-            ended layout cylinder side sector newMark newContents now m sited-again fit held end r
-            ∙ finished-again (layoutOf layout) image m (markOf mark) contents (full layout cylinder side sector mark contents image m S F)
-            (markOf newMark) newContents (full layout cylinder side sector newMark newContents image m S fit) j h
-            ∙ sym (ended layout cylinder side sector newMark newContents image m S fit other whole q);
-      }
+  module _ (newMark : ℕ) (newContents : List ℕ) where
+    abbrev plan : Plan
+    plan = record { layout = layout; place = m; made = 0 }
+
+    -- A request that is accepted on a cut gets the plan of the first image, and its mark and contents fit.
+    same-plan : (new : Plan) → Requests layout cylinder side sector newMark newContents now (request.Planned new)
+        → Fit layout cylinder newMark newContents × (new ≡ plan)
+    same-plan new asked =
+        let g = granted layout cylinder side sector now newMark newContents new asked in
+        let e : Within (new .place) ∷ [] ≡ Within m ∷ [] = sym (g .site .alone) ∙ sited-again .alone in
+        let p : new .place ≡ m = cc in
+        (g .fits, g .noted ∙ ap (λ (x : ℕ). record { layout = layout; place = x; made = 0 }) p)
+
+    ends-so : (held other : Plan) (end whole : List ℕ) → Fit layout cylinder newMark newContents
+        → Ran newMark newContents plan now (number layout now plan) held end
+        → Ran newMark newContents plan image (number layout image plan) other whole → end ≡ whole
+    ends-so held other end whole fit r q =
+        ended layout cylinder side sector newMark newContents now m sited-again fit held end r
+        ∙ finished-again (layoutOf layout) image m (markOf mark) contents (full layout cylinder side sector mark contents image m S F)
+        (markOf newMark) newContents (full layout cylinder side sector newMark newContents image m S fit) j h
+        ∙ sym (ended layout cylinder side sector newMark newContents image m S fit other whole q)
+
+    starts-again : StartsAgain layout cylinder side sector plan image now newMark newContents
+    starts-again =
+        record {
+          accepted = λ fit. accepts layout cylinder side sector now newMark newContents m sited-again fit;
+          only = λ new asked.
+              let same = same-plan new asked in
+              (same .0, same .1, accepts layout cylinder side sector image newMark newContents m S (same .0));
+          ends = λ new held other end whole asked r q.
+              let same = same-plan new asked in
+              ends-so held other end whole (same .0)
+              (subst (λ (x : Plan). Ran newMark newContents x now (number layout now x) held end) (same .1) r) q;
+        }
 
 -- ---- of every accepted request
 
@@ -98,12 +123,11 @@ module _ (layout cylinder side sector mark : ℕ) (contents image : List ℕ) (p
         (by-plan (λ x. Survives layout cylinder side sector mark contents image x j left)
         (survives layout cylinder side sector mark contents image (plan .place) (known .site) (known .fits) j h small))
 
-    again : (newMark : ℕ) (newContents : List ℕ) → Fit layout cylinder newMark newContents
-        → StartsAgain layout cylinder side sector plan image now newMark newContents
-    again newMark newContents fit =
+    again : (newMark : ℕ) (newContents : List ℕ) → StartsAgain layout cylinder side sector plan image now newMark newContents
+    again newMark newContents =
         by-cut (λ i. StartsAgain layout cylinder side sector plan image i newMark newContents)
         (by-plan (λ x. StartsAgain layout cylinder side sector x image left newMark newContents)
-        (starts-again layout cylinder side sector mark contents image (plan .place) (known .site) (known .fits) j h newMark newContents fit))
+        (starts-again layout cylinder side sector mark contents image (plan .place) (known .site) (known .fits) j h newMark newContents))
 
 -- Demand 3 (01, "Rewriting a sector"; the statement is in specs/Rewriting).
 pub demand3 : Demand3

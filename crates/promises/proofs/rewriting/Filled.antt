@@ -8,19 +8,20 @@ use native.Mathlib.Omega.{arith}
 use borrow.Author.Tests.{eq-eqb}
 use lib.ListN.{length, getD, length-append}
 use lib.Seq.{getD-set-same, getD-set-other}
-use Rattle.cells.specs.Cells.{cell, octet, dataBytes}
+use Rattle.cells.specs.Cells.{cell, octet, dataBytes, Bytes}
 use Rattle.cells.specs.declared.Mode.{Mode}
 use Rattle.cells.proofs.Coding.{read-back}
+use Rattle.cells.proofs.Bytes.{bytes-append}
 use Rattle.cells.proofs.Joined.{cell-lt}
 use Rattle.edc.specs.Register.{edcBytes}
 use Rattle.edc.proofs.Laws.{edc-closes, edc-lt}
 use Rattle.layouts.specs.declared.Layout.{Layout}
 use Rattle.marks.specs.Marks.{markByte, covered}
 use Rattle.marks.specs.declared.Mark.{Mark}
-use Rattle.read.specs.Walk.{markCells, edcRight}
-use Rattle.rewrite.specs.Stores.{stored, none, fieldStart, blockEnd, coding, newEdc, field, stores, storeCount}
+use Rattle.marks.specs.Marks.{markCells}
+use Rattle.walk.specs.Walk.{edcRight}
+use Rattle.rewrite.specs.Stores.{stored, noStore, fieldStart, blockEnd, coding, newEdc, field, stores, storeCount}
 use Rattle.promises.specs.Cuts.{cut}
-use Rattle.promises.specs.Rewriting.{Bytes}
 use Rattle.rewrite.specs.declared.Store.{Store}
 use Rattle.rewrite.proofs.Listed.{mark-last, store-coded, Kind, opens, codes, joins, closes, kind}
 use Rattle.rewrite.proofs.Counted.{count-least}
@@ -37,18 +38,11 @@ unfolding coding dataBytes
 coded-read c bit mode b [] ys p small h = refl
 coded-read c bit mode b (x ∷ xs) ys p small h =
     ap₂ _∷_
-    (read-back c bit mode (b % 2) x p (small 0) (ap (octet c) (omega arith) ∙ h 0 (omega arith)) (h 1 (omega arith)))
-    (coded-read c bit mode x xs ys (p + 16) (λ i. small (suc i)) (λ k u. ap (octet c) (omega arith) ∙ h (suc (suc k)) (omega arith)))
-
-bytes-append : (xs ys : List ℕ) → Bytes xs → Bytes ys → Bytes (xs ++ ys)
-bytes-append [] ys a b i = b i
-bytes-append (x ∷ xs) ys a b zero = a 0
-bytes-append (x ∷ xs) ys a b (suc i) = bytes-append xs ys (λ j. a (suc j)) b i
+    (read-back c bit mode (b % 2) x p (small .0) (ap (octet c) (omega arith) ∙ h 0 (omega arith)) (h 1 (omega arith)))
+    (coded-read c bit mode x xs ys (p + 16) (small .1) (λ k u. ap (octet c) (omega arith) ∙ h (suc (suc k)) (omega arith)))
 
 edc-small : (e : ℕ) → e < 65536 → Bytes (edcBytes e)
-edc-small e h zero = omega arith
-edc-small e h (suc zero) = omega arith
-edc-small e h (suc (suc i)) = omega arith
+edc-small e h = (omega arith, (omega arith, tt))
 
 module _ (l : Layout) (image : List ℕ) (place : ℕ) (mark : Mark) (contents : List ℕ) (whole : length contents ≡ l .size)
     (room : blockEnd l place ≤ length image) where
@@ -70,7 +64,7 @@ module _ (l : Layout) (image : List ℕ) (place : ℕ) (mark : Mark) (contents :
   stays i u (suc d) h =
       let s : suc (suc i) + suc d ≡ suc (suc (suc i) + d) = omega arith in
       rw (s, cut-step l image place mark contents whole (suc (suc i) + d) (omega arith))
-      (later (stays i u d (omega arith)) (getD (stores l image place mark contents) (suc (suc i) + d) none)
+      (later (stays i u d (omega arith)) (getD (stores l image place mark contents) (suc (suc i) + d) noStore)
       (kind l image place mark contents whole (suc (suc i) + d) (omega arith)))
     where
       later : getD (now (suc (suc i) + d)) (fieldStart l place + i) 0 ≡ getD (field (l .mode) mark contents) i 0

@@ -11,11 +11,13 @@ use lib.Seq.{set-out}
 use Rattle.cells.specs.Cells.{cell}
 use Rattle.cells.specs.declared.Mode.the-variants.{Mfm}
 use Rattle.layouts.specs.declared.Layout.{Layout}
-use Rattle.marks.specs.Search.{among}
+use Rattle.search.specs.Search.{among}
 use Rattle.marks.specs.declared.Mark.{Mark}
-use Rattle.marks.proofs.Clash.{lastByte}
-use Rattle.marks.proofs.Searching.{le-or-lt}
-use Rattle.read.specs.Walk.{markCells, blockMarks, blockCells}
+use Rattle.marks.specs.Marks.{lastByte}
+use Rattle.search.proofs.Searching.{le-or-lt}
+use Rattle.marks.specs.Marks.{markCells}
+use Rattle.search.specs.Search.{blockMarks}
+use Rattle.walk.specs.Walk.{blockCells}
 use Rattle.promises.proofs.rewriting.Rewritten.{Rewritten}
 use Rattle.promises.proofs.rewriting.Touched.{cell-at, cell-stored, low-cells, store-mark, store-block, edge-cells}
 

@@ -13,15 +13,17 @@ use Rattle.cells.specs.Cells.{octet}
 use Rattle.cells.specs.declared.Mode.{Mode}
 use Rattle.cells.specs.declared.Mode.the-variants.{Fm, Mfm}
 use Rattle.marks.specs.Marks.{string, spells, lies, stands}
-use Rattle.marks.specs.Search.{among, choose, sought, standing}
+use Rattle.search.specs.Search.{among, choose, sought, standing}
 use Rattle.marks.specs.declared.Mark.{Mark}
 use Rattle.marks.specs.declared.Mark.the-variants.{Index, Identifier, Data, Control, Open}
-use Rattle.marks.specs.declared.Kinds.{Kinds}
-use Rattle.marks.specs.declared.Found.the-variants.{At, Nothing}
+use Rattle.search.specs.declared.Kinds.{Kinds}
+use Rattle.search.specs.declared.Found.the-variants.{At, Nothing}
 use Rattle.marks.proofs.Spelling.{Stand, stands-bytes, string-length, is-false}
-use Rattle.marks.proofs.Searching.{searchable}
-use Rattle.marks.proofs.Clash.{start, lastByte, string-parts, stand-move}
-use Rattle.read.specs.Walk.{markCells, blockMarks}
+use Rattle.search.proofs.Searching.{searchable}
+use Rattle.search.proofs.Clash.{start, string-parts, stand-move}
+use Rattle.marks.specs.Marks.{lastByte}
+use Rattle.marks.specs.Marks.{markCells}
+use Rattle.search.specs.Search.{blockMarks}
 use Rattle.promises.proofs.rewriting.Searches.{sort, found-there}
 
 -- ---- the cells of a mark

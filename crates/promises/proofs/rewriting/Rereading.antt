@@ -1,5 +1,5 @@
 -- What `read` answers and leaves of an image in which every sector but one reads as in another: the same, but for that one record and slot.
-use mathlib.Core.Path.{_≡_, refl, sym, _∙_}
+use mathlib.Core.Path.{_≡_, refl, sym, ap, _∙_}
 use mathlib.Core.Bool.{false}
 use mathlib.Core.List.{List, [], _∷_}
 use Prim.Native.Nat.{ℕ, _-_, _*_}
@@ -9,67 +9,68 @@ use lib.ListN.{length, set}
 use lib.Seq.{sets}
 use Rattle.cells.specs.Cells.{cell}
 use Rattle.layouts.specs.Layouts.{layoutOf, mostSectors}
-use Rattle.layouts.specs.Refusals.{refusal, areaTest, readingTests}
-use Rattle.layouts.specs.declared.Checked.the-variants.{Passed}
+use Rattle.layouts.specs.Refusals.{areaTest, readingTests}
+use Rattle.layouts.specs.Tracks.{trackOf}
 use Rattle.layouts.specs.declared.Layout.{Layout}
-use Rattle.layouts.proofs.Refusals.{refusal-append-passed}
-use Rattle.read.specs.Answers.{bads, foreigns, blocks, recordsOf, areaOf}
-use Rattle.read.specs.Outcomes.{met, readTests, readAnswer, readArea, Reads}
-use Rattle.read.specs.declared.Event.{Event}
+use Rattle.layouts.specs.declared.Track.{Track}
+use Rattle.read.specs.Answers.{Sector, recordsOf, areaOf}
+use Rattle.read.specs.Outcomes.{readTests, readAnswer, readArea, Reads}
 use Rattle.read.specs.declared.Reading.{Reading}
-use Rattle.read.proofs.Events.{length-slot}
+use Rattle.read.proofs.Recording.{length-sector}
 use Rattle.read.proofs.Sectors.{map-set, slots-set}
-use Rattle.promises.specs.Rewriting.{recordIn, slotIn, ReadsAlike, withRecord}
+use Rattle.verdicts.specs.Tests.{passed, refusal, by}
+use Rattle.verdicts.proofs.Tests.{append-passed}
+use Rattle.walk.specs.Events.{bads, foreigns}
+use Rattle.walk.specs.Outcomes.{met}
+use Rattle.promises.specs.Rewriting.{withRecord}
+use Rattle.promises.specs.Sectors.{sectorIn}
 use Rattle.promises.proofs.rewriting.Granted.{Sited}
 
 module _ (layout cylinder side sector : ℕ) (image now : List ℕ) (m : ℕ) (S : Sited layout cylinder side sector image m)
-    (long : length now ≡ length image) (alike : (x : ℕ) → (x ≡ sector → ⊥) → ReadsAlike layout cylinder side now image x)
-    (bad : bads (met layout cylinder side now) ≡ bads (met layout cylinder side image))
-    (foreign : foreigns (met layout cylinder side now) ≡ foreigns (met layout cylinder side image)) where
+    (long : length now ≡ length image)
+    (alike : (x : ℕ) → (x ≡ sector → ⊥) → sectorIn (trackOf layout cylinder side) now x ≡ sectorIn (trackOf layout cylinder side) image x)
+    (bad : bads (met (trackOf layout cylinder side) now) ≡ bads (met (trackOf layout cylinder side) image))
+    (foreign : foreigns (met (trackOf layout cylinder side) now) ≡ foreigns (met (trackOf layout cylinder side) image)) where
   abbrev l : Layout
   l = layoutOf layout
 
-  -- What the walk meets on each.
-  abbrev old : List Event
-  old = met layout cylinder side image
-
-  abbrev new : List Event
-  new = met layout cylinder side now
+  abbrev t : Track
+  t = trackOf layout cylinder side
 
   -- An area of the right length is not refused.
   right : areaTest (l .«area_bytes») (l .«area_bytes») .applies ≡ false
   right = rw (eq-eqb (l .«area_bytes») (l .«area_bytes») refl)
 
-  passed : refusal (readTests layout cylinder side (length image) (l .«area_bytes»)) ≡ Passed
+  passes : refusal (readTests layout cylinder side (length image) (l .«area_bytes»)) ≡ passed
   unfolding readTests refusal
-  passed =
-      refusal-append-passed (readingTests layout cylinder side (length image)) (areaTest (l .«area_bytes») (l .«area_bytes») ∷ []) (S .readable)
+  passes =
+      append-passed (readingTests layout cylinder side (length image)) (areaTest (l .«area_bytes») (l .«area_bytes») ∷ []) (S .readable)
       ∙ rw right
 
-  passed-now : refusal (readTests layout cylinder side (length now) (l .«area_bytes»)) ≡ Passed
-  passed-now = rw long passed
+  passes-now : refusal (readTests layout cylinder side (length now) (l .«area_bytes»)) ≡ passed
+  passes-now = rw long passes
 
   -- All but one of the records, and of the slots, are as they were.
-  records-but : recordsOf l (cell now) (8 * length now) new
-      ≡ set (recordsOf l (cell image) (8 * length image) old) (sector - 1) (recordIn layout cylinder side now sector)
+  records-but : recordsOf t (cell now) (8 * length now) (met t now)
+      ≡ set (recordsOf t (cell image) (8 * length image) (met t image)) (sector - 1) (sectorIn t now sector .known)
   unfolding recordsOf
   records-but =
-      map-set (recordIn layout cylinder side image) (recordIn layout cylinder side now) sector (λ x o. alike x (λ q. o (sym q)) .0)
-      mostSectors 1 (S .low)
+      map-set (λ x. sectorIn t image x .known) (λ x. sectorIn t now x .known) sector
+      (λ x o. ap (λ (y : Sector). y .known) (alike x (λ q. o (sym q)))) mostSectors 1 (S .low)
 
-  area-but : areaOf l (cell now) (8 * length now) new
-      ≡ sets (areaOf l (cell image) (8 * length image) old) ((sector - 1) * l .size) (slotIn layout cylinder side now sector)
+  area-but : areaOf t (cell now) (8 * length now) (met t now)
+      ≡ sets (areaOf t (cell image) (8 * length image) (met t image)) ((sector - 1) * l .size) (sectorIn t now sector .slot)
   unfolding areaOf
   area-but =
-      slots-set (l .size) (slotIn layout cylinder side image) (slotIn layout cylinder side now) sector
-      (λ x. length-slot l (cell image) (8 * length image) (blocks x old))
-      (λ x. length-slot l (cell now) (8 * length now) (blocks x new))
-      (λ x o. alike x (λ q. o (sym q)) .1) (l .sectors) 1 (S .low) (omega (arith, S .numbered))
+      slots-set (l .size) (λ x. sectorIn t image x .slot) (λ x. sectorIn t now x .slot) sector
+      (λ x. length-sector t (cell image) (8 * length image) (met t image) x)
+      (λ x. length-sector t (cell now) (8 * length now) (met t now) x)
+      (λ x o. ap (λ (y : Sector). y .slot) (alike x (λ q. o (sym q)))) (l .sectors) 1 (S .low) (omega (arith, S .numbered))
 
-  pub read-so : (before answer : Reading) (area left : List ℕ) → Reads layout cylinder side image (l .«area_bytes») before area
-      → Reads layout cylinder side now (l .«area_bytes») answer left
-      → (answer ≡ withRecord before sector (recordIn layout cylinder side now sector))
-      × (left ≡ sets area ((sector - 1) * l .size) (slotIn layout cylinder side now sector))
-  unfolding readAnswer readArea
-  read-so before answer area left r q =
-      (q .answers ∙ rw (r .answers, passed, passed-now, records-but, bad, foreign), q .leaves ∙ rw (r .leaves, passed, passed-now) area-but)
+  pub read-so : (before answer : Reading) (area after : List ℕ) → Reads layout cylinder side image (l .«area_bytes») before area
+      → Reads layout cylinder side now (l .«area_bytes») answer after
+      → (answer ≡ withRecord before sector (sectorIn t now sector .known))
+      × (after ≡ sets area ((sector - 1) * l .size) (sectorIn t now sector .slot))
+  unfolding readAnswer readArea by
+  read-so before answer area after r q =
+      (q .answers ∙ rw (r .answers, passes, passes-now, records-but, bad, foreign), q .leaves ∙ rw (r .leaves, passes, passes-now) area-but)

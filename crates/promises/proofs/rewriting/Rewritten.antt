@@ -10,13 +10,15 @@ use Rattle.cells.specs.declared.Mode.{Mode}
 use Rattle.cells.specs.declared.Mode.the-variants.{Fm, Mfm}
 use Rattle.layouts.specs.declared.Layout.{Layout}
 use Rattle.marks.specs.Marks.{stands}
-use Rattle.marks.specs.Search.{among}
+use Rattle.search.specs.Search.{among}
 use Rattle.marks.specs.declared.Mark.{Mark}
-use Rattle.marks.specs.declared.Kinds.{Kinds}
+use Rattle.search.specs.declared.Kinds.{Kinds}
 use Rattle.marks.proofs.Spelling.{Stand}
-use Rattle.marks.proofs.Searching.{searchable, le-or-lt}
-use Rattle.marks.proofs.Clash.{start, stands-clear}
-use Rattle.read.specs.Walk.{markCells, blockMarks, blockCells}
+use Rattle.search.proofs.Searching.{searchable, le-or-lt}
+use Rattle.search.proofs.Clash.{start, stands-clear}
+use Rattle.marks.specs.Marks.{markCells}
+use Rattle.search.specs.Search.{blockMarks}
+use Rattle.walk.specs.Walk.{blockCells}
 use Rattle.promises.proofs.rewriting.Searches.{sort, Alike}
 use Rattle.promises.proofs.rewriting.Marks.{stands-same, stands-start, start-same, stands-edge, block-searchable, block-sort, standing-same}
 use Rattle.promises.proofs.rewriting.Rounds.{Agrees}

@@ -13,19 +13,22 @@ use lib.Seq.{getD-set-other}
 use Rattle.cells.specs.Cells.{cell}
 use Rattle.cells.proofs.Joined.{cell-lt}
 use Rattle.layouts.specs.Layouts.{highest, layoutOf}
-use Rattle.layouts.specs.Refusals.{Test, refusal, imageTest, numberTest, areaTest, markTest}
-use Rattle.layouts.specs.declared.Checked.the-variants.{Passed, Refused}
+use Rattle.layouts.specs.Refusals.{imageTest, numberTest, areaTest, markTest}
+use Rattle.layouts.specs.Tracks.{trackOf}
 use Rattle.layouts.specs.declared.Layout.{Layout}
+use Rattle.layouts.specs.declared.Refusal.{Refusal}
 use Rattle.layouts.specs.declared.Refusal.the-variants.{Finished}
-use Rattle.layouts.proofs.Refusals.{refusal-passed}
+use Rattle.verdicts.specs.Tests.{Test, passed, refused, refusal, by}
+use Rattle.verdicts.proofs.Tests.{first-passed}
 use Rattle.marks.specs.Marks.{markByte, markOf}
-use Rattle.marks.specs.Search.{among, some}
+use Rattle.search.specs.Search.{among, isStanding}
 use Rattle.marks.specs.declared.Mark.the-variants.{Control, Data}
-use Rattle.read.specs.Walk.{blockMarks, blockCells}
-use Rattle.read.specs.Outcomes.{met}
-use Rattle.rewrite.specs.Stores.{stored, none, blockEnd, stores, storeCount}
-use Rattle.rewrite.specs.Refusals.{holdsBlock, blockTest, finishedTest, blockTests, stepTests}
-use Rattle.rewrite.specs.Outcomes.{Steps}
+use Rattle.search.specs.Search.{blockMarks}
+use Rattle.walk.specs.Walk.{blockCells}
+use Rattle.walk.specs.Outcomes.{met}
+use Rattle.rewrite.specs.Stores.{stored, noStore, blockEnd, stores, storeCount}
+use Rattle.rewrite.specs.Refusals.{holdsBlock, blockTest, finishedTest, planTests, stepTests, contentsTests}
+use Rattle.rewrite.specs.Outcomes.{Steps, steppedNumber}
 use Rattle.promises.specs.Cuts.{cut}
 use Rattle.promises.specs.Rewriting.{Fit, inHand, Ran, begun, went, planAt, Stepwise}
 use Rattle.rewrite.specs.declared.Plan.{Plan}
@@ -40,7 +43,7 @@ use Rattle.promises.proofs.rewriting.Fitted.{cut-rewritten}
 use Rattle.promises.proofs.rewriting.Granted.{Sited}
 
 -- A test that does not apply passes the question on.
-passes : (t : Test) (ts : List Test) → t .applies ≡ false → refusal (t ∷ ts) ≡ refusal ts
+passes : (t : Test Refusal) (ts : List (Test Refusal)) → t .applies ≡ false → refusal (t ∷ ts) ≡ refusal ts
 unfolding refusal
 passes t ts e = rw e
 
@@ -54,7 +57,7 @@ new-mark mark = go (eqb mark (markByte Control))
 
 -- What stands at a block's place is seen by a step.
 holds-made : (l : Layout) (image : List ℕ) (place : ℕ) → place % 8 ≡ 0 → place + blockCells l ≤ 8 * length image
-    → some (l .mode) (cell image) (8 * length image) blockMarks place ≡ true → holdsBlock l image place ≡ true
+    → isStanding (l .mode) (cell image) (8 * length image) blockMarks place ≡ true → holdsBlock l image place ≡ true
 unfolding holdsBlock
 holds-made l image place a b c = rw (eq-eqb (place % 8) 0 a, le-leb (place + blockCells l) (8 * length image) b, c)
 
@@ -77,21 +80,23 @@ module _ (layout cylinder side sector mark : ℕ) (contents image : List ℕ) (m
 
   -- What 5 and 6 say of the contents and the mark.
   area : areaTest (l .size) (length contents) .applies ≡ false
-  area = refusal-passed _ _ F .0
+  unfolding contentsTests
+  area = first-passed _ _ F .0
 
   pub full : length contents ≡ l .size
   full = eqb-true _ _ (not-false _ area)
 
   asked : markTest mark .applies ≡ false
-  asked = refusal-passed _ _ (refusal-passed _ _ F .1) .0
+  unfolding contentsTests
+  asked = first-passed _ _ (first-passed _ _ F .1) .0
 
   -- ---- the place
 
-  pub claims : Claims sector m (met layout cylinder side image)
-  claims = blocks-claims sector m (met layout cylinder side image) (S .alone)
+  pub claims : Claims sector m (met (trackOf layout cylinder side) image)
+  claims = blocks-claims sector m (met (trackOf layout cylinder side) image) (S .alone)
 
   placed : Placed l (cell image) (8 * length image) m
-  placed = claimed-placed l cylinder side (cell image) (8 * length image) sector m claims
+  placed = claimed-placed (trackOf layout cylinder side) (cell image) (8 * length image) sector m claims
 
   pub room : blockEnd l m ≤ length image
   room = omega (arith, placed, S)
@@ -114,7 +119,7 @@ module _ (layout cylinder side sector mark : ℕ) (contents image : List ℕ) (m
 
   -- All tests but the last pass.
   judged : (j : ℕ) → j ≤ number → refusal (stepTests (at j) mark contents (now j)) ≡ refusal (finishedTest l (at j) mark contents (now j) ∷ [])
-  unfolding stepTests blockTests
+  unfolding planTests
   judged j h =
       passes (numberTest layout) _ (le-ltb highest layout (S .known))
       ∙ passes (imageTest (length (now j))) _ (rw (length-cut l image m (markOf mark) contents j) (S .measured))
@@ -127,28 +132,30 @@ module _ (layout cylinder side sector mark : ℕ) (contents image : List ℕ) (m
       ap length (stores-cut l image m (markOf mark) contents full j h (markOf mark) contents)
       ∙ stores-count l image m (markOf mark) contents full
 
-  passed : (j : ℕ) → j < number → refusal (stepTests (at j) mark contents (now j)) ≡ Passed
+  accepts : (j : ℕ) → j < number → refusal (stepTests (at j) mark contents (now j)) ≡ passed
   unfolding refusal
-  passed j h = judged j (omega arith) ∙ rw (counted j (omega arith), lt-leb number j h)
+  accepts j h = judged j (omega arith) ∙ rw (counted j (omega arith), lt-leb number j h)
 
-  refused : refusal (stepTests (at number) mark contents (now number)) ≡ Refused Finished
+  finishes : refusal (stepTests (at number) mark contents (now number)) ≡ refused Finished
   unfolding refusal
-  refused = judged number (omega arith) ∙ rw (counted number (omega arith), le-leb number number (omega arith))
+  finishes = judged number (omega arith) ∙ rw (counted number (omega arith), le-leb number number (omega arith))
 
   -- The store that is next is the list's.
-  next-made : (j : ℕ) → j < number → stored (now j) (getD (stores l (now j) m (markOf mark) contents) j none) ≡ now (suc j)
+  next-made : (j : ℕ) → j < number → stored (now j) (getD (stores l (now j) m (markOf mark) contents) j noStore) ≡ now (suc j)
   next-made j h =
       rw (stores-cut l image m (markOf mark) contents full j (omega arith) (markOf mark) contents)
       (sym (cut-step l image m (markOf mark) contents full j h))
 
   made : (j : ℕ) (answer : Stepped) (next : List ℕ) → j < number → Steps (at j) mark contents (now j) answer next
       → (answer ≡ step.Made (at (suc j))) × (next ≡ now (suc j))
+  unfolding by
   made j answer next h s =
-      let p = passed j h in
+      let p = accepts j h in
       ((rw (p, add-one j) at (s .answers)), (rw p at (s .leaves)) ∙ next-made j h)
 
   steps-so : (j : ℕ) → j < number → Steps (at j) mark contents (now j) (step.Made (at (suc j))) (now (suc j))
-  steps-so j h = record { answers = rw (passed j h, add-one j); leaves = rw (passed j h) (sym (next-made j h)) }
+  unfolding by
+  steps-so j h = record { answers = rw (accepts j h, add-one j); leaves = rw (accepts j h) (sym (next-made j h)) }
 
   -- ---- all of them
 
@@ -174,12 +181,13 @@ module _ (layout cylinder side sector mark : ℕ) (contents image : List ℕ) (m
 
   changed : (j : ℕ) (next : List ℕ) → j < number → next ≡ now (suc j)
       → (length next ≡ length (now j))
-      × ((i : ℕ) → (i ≡ getD (stores l image m (markOf mark) contents) j none .place → ⊥) → getD next i 0 ≡ getD (now j) i 0)
+      × ((i : ℕ) → (i ≡ getD (stores l image m (markOf mark) contents) j noStore .byte → ⊥) → getD next i 0 ≡ getD (now j) i 0)
   changed j next h e =
       let d = e ∙ cut-step l image m (markOf mark) contents full j h in
       rw d (length-set (now j) _ _, λ i n. getD-set-other (now j) _ i _ 0 n)
 
   pub stepwise : Stepwise layout mark contents image plan
+  unfolding by
   stepwise =
       record {
         counts = stores-count l image m (markOf mark) contents full;
@@ -191,5 +199,5 @@ module _ (layout cylinder side sector mark : ℕ) (contents image : List ℕ) (m
             (changed j next h (made j answer next h (in-list j held left answer next (omega arith) r s) .1));
         refuses = λ held left answer next r s.
             let t = in-list number held left answer next (omega arith) r s in
-            ((rw refused at (t .answers)), (rw refused at (t .leaves)) ∙ sym (only number held left (omega arith) r .1));
+            (ap steppedNumber (rw finishes at (t .answers)), (rw finishes at (t .leaves)) ∙ sym (only number held left (omega arith) r .1));
       }

@@ -8,17 +8,17 @@ use native.Mathlib.Nat.{eq-or-lt-of-le}
 use native.Mathlib.Omega.{arith}
 use Rattle.cells.specs.declared.Mode.{Mode}
 use Rattle.marks.specs.Marks.{stands}
-use Rattle.marks.specs.Search.{Place, nowhere, at, find, among, choose, isFound, sought, standing, some, named, firstMark}
+use Rattle.search.specs.Search.{Place, nowhere, at, find, among, choose, isFound, sought, standing, isStanding, named, firstMark}
 use Rattle.marks.specs.declared.Mark.{Mark}
 use Rattle.marks.specs.declared.Mark.the-variants.{Identifier, Data}
-use Rattle.marks.specs.declared.Kinds.{Kinds}
-use Rattle.marks.specs.declared.Found.{Found}
-use Rattle.marks.specs.declared.Found.the-variants.{At, Nothing}
-use Rattle.marks.proofs.Firsts.{find-hits, first-known}
-use Rattle.marks.proofs.Searching.{le-or-lt, some-none, some-found, first-skip, first-end, first-found}
+use Rattle.search.specs.declared.Kinds.{Kinds}
+use Rattle.search.specs.declared.Found.{Found}
+use Rattle.search.specs.declared.Found.the-variants.{At, Nothing}
+use Rattle.search.proofs.Firsts.{find-hits, first-known}
+use Rattle.search.proofs.Searching.{le-or-lt, not-standing, is-standing, first-skip, first-end, first-found}
 use Rattle.marks.proofs.Spelling.{one-mark}
-use Rattle.marks.proofs.Telling.{standing-told}
-use Rattle.read.specs.Walk.{blockMarks}
+use Rattle.search.proofs.Telling.{standing-told}
+use Rattle.search.specs.Search.{blockMarks}
 
 pub not-both : {A : Type 0} (b : Bool) → b ≡ true → b ≡ false → A
 not-both b x y = let z : _≡_ {A = ℕ} 0 1 = cc in absurd (omega arith)
@@ -50,19 +50,19 @@ module _ (mode : Mode) (c : ℕ → ℕ) (n : ℕ) (kinds : Kinds) where
         by true = refl
         by false = refl
 
-    pub some-there : among kinds k ≡ true → some mode c n kinds w ≡ true
-    some-there e = some-found mode c n kinds w w k (found-there ∙ rw e)
+    pub some-there : among kinds k ≡ true → isStanding mode c n kinds w ≡ true
+    some-there e = is-standing mode c n kinds w w k (found-there ∙ rw e)
 
   -- Where nothing is found, nothing that is looked for stands.
   pub first-nothing : (from to : ℕ) → firstMark mode c n kinds from to ≡ Nothing
-      → (w : ℕ) → from ≤ w → w < to → some mode c n kinds w ≡ false
+      → (w : ℕ) → from ≤ w → w < to → isStanding mode c n kinds w ≡ false
   unfolding firstMark
-  first-nothing from to e w a b = go (find (some mode c n kinds) (to - from) from) refl e
+  first-nothing from to e w a b = go (find (isStanding mode c n kinds) (to - from) from) refl e
     where
-      go : (x : Place) → find (some mode c n kinds) (to - from) from ≡ x → named mode c n kinds x ≡ Nothing → some mode c n kinds w ≡ false
-      go nowhere f e = none-found (some mode c n kinds) (to - from) from f w a (omega arith)
+      go : (x : Place) → find (isStanding mode c n kinds) (to - from) from ≡ x → named mode c n kinds x ≡ Nothing → isStanding mode c n kinds w ≡ false
+      go nowhere f e = none-found (isStanding mode c n kinds) (to - from) from f w a (omega arith)
       go (at q) f e =
-          not-both (some mode c n kinds q) (find-hits (some mode c n kinds) (to - from) from q f .holds) (some-none mode c n kinds q e)
+          not-both (isStanding mode c n kinds q) (find-hits (isStanding mode c n kinds) (to - from) from q f .holds) (not-standing mode c n kinds q e)
 
 -- ---- the sort of what is found
 
@@ -104,8 +104,8 @@ module _ (mode : Mode) (n : ℕ) (kinds : Kinds) (c d : ℕ → ℕ) where
   abbrev pub Alike : ℕ → Type 0
   Alike w = sort (standing mode d n kinds w) ≡ sort (standing mode c n kinds w)
 
-  some-alike : (w : ℕ) → Alike w → some mode d n kinds w ≡ some mode c n kinds w
-  unfolding some
+  some-alike : (w : ℕ) → Alike w → isStanding mode d n kinds w ≡ isStanding mode c n kinds w
+  unfolding isStanding
   some-alike w e = sym (sort-found (standing mode d n kinds w)) ∙ ap isFound e ∙ sort-found (standing mode c n kinds w)
 
   -- Nothing is found, where nothing was.

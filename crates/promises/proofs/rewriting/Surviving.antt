@@ -1,33 +1,30 @@
 -- How every cut of an accepted rewrite reads: every other sector as before, and the sector itself by the number of stores that were made.
-use mathlib.Core.Path.{_≡_, refl}
+use mathlib.Core.Path.{_≡_, refl, ap}
 use mathlib.Core.Bool.{true}
 use mathlib.Core.List.{List}
 use Prim.Native.Nat.{ℕ, zero, suc, _*_, _<_, _≤_}
 use native.Mathlib.Omega.{arith}
-use borrow.Author.Tests.{le-leb}
-use lib.Dec.{eqb}
-use lib.ListN.{length, replicate}
-use Rattle.cells.specs.Cells.{cell}
+use lib.ListN.{length}
+use Rattle.cells.specs.Cells.{cell, Bytes}
 use Rattle.layouts.specs.Layouts.{layoutOf}
-use Rattle.layouts.specs.Refusals.{controlMark}
+use Rattle.layouts.specs.Tracks.{trackOf}
 use Rattle.layouts.specs.declared.Layout.{Layout}
+use Rattle.layouts.specs.declared.Track.{Track}
 use Rattle.marks.specs.Marks.{markOf, stands}
 use Rattle.marks.specs.declared.Mark.the-variants.{Open}
-use Rattle.read.specs.Walk.{events}
-use Rattle.read.specs.Answers.{bads, foreigns, blocks, answer, slot, recordOf}
-use Rattle.read.specs.Outcomes.{met}
-use Rattle.read.specs.declared.Answer.{Answer}
-use Rattle.read.specs.declared.Fault.the-variants.{OpenMark}
-use Rattle.read.specs.declared.Answer.the-variants as answers
+use Rattle.read.specs.Answers.{identifierRecord}
 use Rattle.rewrite.specs.Stores.{blockEnd, storeCount}
-use Rattle.promises.specs.Cuts.{cut}
-use Rattle.promises.specs.RoundTrip.{markAnswer}
-use Rattle.promises.specs.Rewriting.{Bytes, Fit, ReadsAlike, ReadsWith, Survives}
-use Rattle.rewrite.specs.declared.Requested.the-variants as request
 use Rattle.rewrite.proofs.Counted.{count-least}
+use Rattle.walk.specs.Events.{bads, foreigns}
+use Rattle.walk.specs.Outcomes.{met}
+use Rattle.walk.specs.declared.Block.the-variants.{Within}
+use Rattle.promises.specs.Cuts.{cut}
+use Rattle.promises.specs.Rewriting.{Fit, Survives}
+use Rattle.promises.specs.Sectors.{sectorIn, Back, readsBack, underWay, ReadsSo}
+use Rattle.promises.proofs.Blocks.{written-so, open-so}
 use Rattle.promises.proofs.rewriting.Claims.{Claims}
 use Rattle.promises.proofs.rewriting.Rewritten.{Rewritten}
-use Rattle.promises.proofs.rewriting.Answers.{bads-kept, foreigns-kept, other-record, other-slot, own-open, own-written}
+use Rattle.promises.proofs.rewriting.Answers.{bads-kept, foreigns-kept, other-sector, own-so}
 use Rattle.promises.proofs.rewriting.Cutting.{length-cut, cut-none}
 use Rattle.promises.proofs.rewriting.Fitted.{cut-open, cut-closed}
 use Rattle.promises.proofs.rewriting.Rereading.{read-so}
@@ -39,6 +36,9 @@ module _ (layout cylinder side sector mark : ℕ) (contents image : List ℕ) (m
     (F : Fit layout cylinder mark contents) where
   abbrev l : Layout
   l = layoutOf layout
+
+  abbrev t : Track
+  t = trackOf layout cylinder side
 
   abbrev n : ℕ
   n = 8 * length image
@@ -60,7 +60,7 @@ module _ (layout cylinder side sector mark : ℕ) (contents image : List ℕ) (m
   first : Rewritten l (cell image) (cell image) n m
   first = whole-block layout cylinder side sector mark contents image m S F
 
-  taken : Claims sector m (met layout cylinder side image)
+  taken : Claims sector m (met t image)
   taken = claims layout cylinder side sector mark contents image m S F
 
   -- From the first store on the open mark stands, and after the last the new one.
@@ -82,26 +82,18 @@ module _ (layout cylinder side sector mark : ℕ) (contents image : List ℕ) (m
     part = rewritten layout cylinder side sector mark contents image m S F j h
 
     -- Both counts, and the other sectors.
-    bad : bads (met layout cylinder side (now j)) ≡ bads (met layout cylinder side image)
-    bad = rw same-length (bads-kept l cylinder side (cell image) (cell (now j)) n m part sector taken)
+    bad : bads (met t (now j)) ≡ bads (met t image)
+    bad = rw same-length (bads-kept t (cell image) (cell (now j)) n m part sector taken)
 
-    foreign : foreigns (met layout cylinder side (now j)) ≡ foreigns (met layout cylinder side image)
-    foreign = rw same-length (foreigns-kept l cylinder side (cell image) (cell (now j)) n m part sector taken)
+    foreign : foreigns (met t (now j)) ≡ foreigns (met t image)
+    foreign = rw same-length (foreigns-kept t (cell image) (cell (now j)) n m part sector taken)
 
-    others : (x : ℕ) → (x ≡ sector → ⊥) → ReadsAlike layout cylinder side (now j) image x
-    others x d =
-        rw same-length (
-          other-record l cylinder side (cell image) (cell (now j)) n m part sector taken x d,
-          other-slot l cylinder side (cell image) (cell (now j)) n m part sector taken x d,
-        )
+    others : (x : ℕ) → (x ≡ sector → ⊥) → sectorIn t (now j) x ≡ sectorIn t image x
+    others x d = rw same-length (other-sector t (cell image) (cell (now j)) n m part sector taken x d)
 
-    -- The sector's own record, from its answer.
-    own : (a : Answer) (bytes : List ℕ)
-        → (answer l (cell (now j)) n (blocks sector (events l cylinder side (cell (now j)) n)) ≡ a)
-        × (slot l (cell (now j)) n (blocks sector (events l cylinder side (cell (now j)) n)) ≡ bytes)
-        → ReadsWith layout cylinder side (now j) sector a bytes
-    unfolding recordOf
-    own a bytes e = rw (same-length, le-leb sector (l .sectors) (S .numbered)) (rw (e .0), e .1)
+    -- The sector itself is what its block is.
+    own : (back : Back) → ReadsSo (identifierRecord t (cell (now j)) n (Within m)) back → ReadsSo (sectorIn t (now j) sector) back
+    own back so = rw same-length (own-so t (cell image) (cell (now j)) n m part sector (S .alone) (S .numbered) back so)
 
     pub survives : Bytes contents
         → Survives layout cylinder side sector mark contents image (record { layout = layout; place = m; made = 0 }) j (now j)
@@ -110,11 +102,10 @@ module _ (layout cylinder side sector mark : ℕ) (contents image : List ℕ) (m
           others = others;
           bad = bad;
           foreign = foreign;
-          unbegun = λ z. rw (z, cut-none l image m (markOf mark) contents) (refl, refl);
-          opened = λ a b. own (answers.Refused OpenMark) (replicate (l .size) 0)
-              (own-open l cylinder side (cell image) (cell (now j)) n m part sector (S .alone) (under-way j a b));
-          written = λ e. own (markAnswer mark) contents
-              (own-written l cylinder side (cell image) (cell (now j)) n m part sector (S .alone) (eqb mark controlMark) contents (closed j e)
+          unbegun = λ z. ap (λ (i : List ℕ). sectorIn t i sector) (rw z (cut-none l image m (markOf mark) contents));
+          opened = λ a b. own (underWay (l .size)) (open-so t (cell (now j)) n m (under-way j a b));
+          written = λ e. own (readsBack cylinder mark contents)
+              (written-so t (cell (now j)) n m mark contents (closed j e)
               (holds-new l image m (markOf mark) contents whole within (S .boundary) j e small)
               (edc-new l image m (markOf mark) contents whole within (S .boundary) j e small));
           reads = read-so layout cylinder side sector image (now j) m S same-length others bad foreign;

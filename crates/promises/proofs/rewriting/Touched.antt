@@ -13,16 +13,20 @@ use Rattle.cells.specs.declared.Mode.{Mode}
 use Rattle.cells.specs.declared.Mode.the-variants.{Fm, Mfm}
 use Rattle.cells.proofs.Digits.{bits}
 use Rattle.cells.proofs.Joined.{cell-lt}
-use Rattle.layouts.specs.Layouts.{markBytes}
+use Rattle.marks.specs.Marks.{markLast, lastByte}
+use Rattle.cells.proofs.Bytes.{byte-at}
+use Rattle.promises.proofs.formatting.Standing.{string-bytes}
 use Rattle.layouts.specs.declared.Layout.{Layout}
 use Rattle.marks.specs.Marks.{string, stands}
-use Rattle.marks.specs.Search.{among}
+use Rattle.search.specs.Search.{among}
 use Rattle.marks.specs.declared.Mark.{Mark}
 use Rattle.marks.specs.declared.Mark.the-variants.{Index, Identifier, Data, Control, Open}
 use Rattle.marks.proofs.Spelling.{stands-room}
-use Rattle.marks.proofs.Searching.{le-or-lt}
-use Rattle.marks.proofs.Clash.{start, lastByte}
-use Rattle.read.specs.Walk.{markCells, blockMarks, blockCells}
+use Rattle.search.proofs.Searching.{le-or-lt}
+use Rattle.search.proofs.Clash.{start}
+use Rattle.marks.specs.Marks.{markCells}
+use Rattle.search.specs.Search.{blockMarks}
+use Rattle.walk.specs.Walk.{blockCells}
 use Rattle.promises.proofs.rewriting.Marks.{string-cells, start-cells, stands-same, stands-start, start-same, stands-made, block-searchable}
 use Rattle.promises.proofs.rewriting.Rewritten.{Rewritten}
 
@@ -77,29 +81,8 @@ low-cells (suc (suc (suc (suc (suc (suc (suc (suc x)))))))) v w l u h = absurd (
 -- ---- the last byte of a mark
 
 last-lt : (mode : Mode) (k : Mark) → lastByte mode k < 256
-last-lt Fm Index = omega arith
-last-lt Fm Identifier = omega arith
-last-lt Fm Data = omega arith
-last-lt Fm Control = omega arith
-last-lt Fm Open = omega arith
-last-lt Mfm Index = omega arith
-last-lt Mfm Identifier = omega arith
-last-lt Mfm Data = omega arith
-last-lt Mfm Control = omega arith
-last-lt Mfm Open = omega arith
-
--- It is the last of the mark's string.
-pub last-of-string : (mode : Mode) (k : Mark) → getD (string mode k) (2 * markBytes mode - 1) 0 ≡ lastByte mode k
-last-of-string Fm Index = refl
-last-of-string Fm Identifier = refl
-last-of-string Fm Data = refl
-last-of-string Fm Control = refl
-last-of-string Fm Open = refl
-last-of-string Mfm Index = refl
-last-of-string Mfm Identifier = refl
-last-of-string Mfm Data = refl
-last-of-string Mfm Control = refl
-last-of-string Mfm Open = refl
+unfolding lastByte
+last-lt mode k = byte-at (string mode k) (markLast mode) (string-bytes mode k)
 
 -- A store behind the mark leaves what stands at m.
 pub mark-stays : (mode : Mode) (image : List ℕ) (n m j v : ℕ) (k : Mark) → m + markCells mode ≤ 8 * j

@@ -1,25 +1,28 @@
 -- `pick` meets its contract: the part goes with what is picked.
-use mathlib.Core.Path.{sym, _∙_}
-use native.Mathlib.Omega.{arith}
+use mathlib.Core.Path.{_≡_, sym, ap, ap₂, subst, _∙_}
+use mathlib.Core.List.{List, []}
+use Prim.Native.Nat.{ℕ, _*_}
 use denote.Ref.{now}
 use lib.ListN.{length}
 use Rattle.layouts.specs.Layouts.{layoutOf}
-use Rattle.layouts.specs.Refusals.{refusal}
-use Rattle.layouts.proofs.Refusals.{taken-refused}
-use Rattle.read.specs.Picks.{pickTests, pickedOf}
+use Rattle.layouts.specs.declared.Layout.{Layout}
+use Rattle.layouts.proofs.Refusals.{told-passed, answer-refused, answer-passed}
+use Rattle.read.specs.Picks.{choice, chosenOf, stretchIn}
+use Rattle.read.specs.declared.Choice.{Choice}
+use Rattle.read.specs.declared.Choice.the-variants.{Refused}
 use Rattle.read.proofs.Picking.{pickable}
 use borrow.Author.Needs.{needs}
 use Rattle.read.proofs.pick.Statement.{statement}
 use Rattle.read.proofs.pick.Tie as tie
 
-tested-requires : tie.Need-tested-requires
-tested-requires c κs = search needs
-
-enum-known-taken : tie.Need-enum-known-taken
-enum-known-taken c = search needs
+pick-tested-requires : tie.Need-pick-tested-requires
+pick-tested-requires c κs = search needs
 
 enum-told : tie.Need-enum-told
 enum-told c = search needs
+
+enum-told-2 : tie.Need-enum-told-2
+enum-told-2 c = search needs
 
 sub-result : tie.Need-sub-result
 sub-result c = search needs
@@ -31,47 +34,53 @@ part-result-end : tie.Need-part-result-end
 part-result-end c = search needs
 
 returns : tie.Need-returns
-unfolding pickedOf
+unfolding chosenOf
 returns c =
     let a = c .before .before .before .before .before .before .args in
-    let by = taken-refused (layoutOf (a .layout)) (refusal (pickTests (a .layout) (a .sector) (length (now (a .first))) (length (now (a .second))))) _ (sym (c .before .before .before .tested .ensures) ∙ c .before .enum-told .given .1) in
-    rw by
+    let nothing = answer-refused _ _ _ _ (c .before .before .before .pick-tested .ensures) _ (c .before .enum-told2 .given .1) in
+    ap (stretchIn (layoutOf (a .layout)) (a .sector) (now (a .first)) (now (a .second))) nothing
 
 record-at-requires : tie.Need-record-at-requires
 record-at-requires c κs =
-    let a = c .before .before .before .before .before .before .args in
-    let k = pickable (a .layout) (a .sector) _ _ _ _ (c .before .before .before .tested .ensures) (c .before .taken .given .1) in
-    (k .low, omega (arith, k .high, k .small))
+    let k = pickable _ _ _ _ (told-passed _ _ (c .before .before .pick-tested .ensures) (c .enum-told .given .1)) in
+    (k .low, k .few)
 
 record-at-requires-2 : tie.Need-record-at-requires-2
 record-at-requires-2 c κs =
-    let a = c .before .before .before .before .before .before .before .args in
-    let k = pickable (a .layout) (a .sector) _ _ _ _ (c .before .before .before .before .tested .ensures) (c .before .before .taken .given .1) in
-    (k .low, omega (arith, k .high, k .small))
+    let k = pickable _ _ _ _ (told-passed _ _ (c .before .before .before .pick-tested .ensures) (c .before .enum-told .given .1)) in
+    (k .low, k .few)
 
 chosen-pass-requires : tie.Need-chosen-pass-requires
 chosen-pass-requires c κs = search needs
 
+layout-of-requires : tie.Need-layout-of-requires
+layout-of-requires c κs = search needs
+
 stretch-requires : tie.Need-stretch-requires
 stretch-requires c κs =
-    let a = c .before .before .before .before .before .before .before .before .before .args in
-    let k = pickable (a .layout) (a .sector) _ _ _ _ (c .before .before .before .before .before .before .tested .ensures) (c .before .before .before .before .taken .given .1) in
-    (k .low, k .high, k .one, k .two)
+    let tested = c .before .before .before .before in
+    let k = pickable _ _ _ _ (told-passed _ _ (tested .before .before .pick-tested .ensures) (tested .enum-told .given .1)) in
+    let l = c .layout-of .ensures in
+    (k .low, rw l (k .high), rw l (k .one), rw l (k .two))
 
 returns-2 : tie.Need-returns-2
-unfolding pickedOf
+unfolding chosenOf
 returns-2 c =
-    let a = c .before .before .before .before .before .before .before .before .before .before .args in
-    let k = pickable (a .layout) (a .sector) _ _ _ _ (c .before .before .before .before .before .before .before .tested .ensures) (c .before .before .before .before .before .taken .given .1) in
-    c .stretch .ensures ∙ rw (c .before .chosen-pass .ensures, c .before .before .before .record-at .ensures, c .before .before .record-at2 .ensures, k .passed, k .named)
+    let tested = c .before .before .before .before .before in
+    let a = tested .before .before .before .before .before .args in
+    let chosen = c .before .before .chosen-pass .ensures
+    ∙ ap₂ choice (c .before .before .before .before .record-at .ensures) (c .before .before .before .record-at2 .ensures)
+    ∙ answer-passed _ _ _ _ (tested .before .before .pick-tested .ensures) (tested .enum-told .given .1) in
+    c .stretch .ensures
+    ∙ ap₂ (λ (l : Layout) (x : Choice). stretchIn l (a .sector) (now (a .first)) (now (a .second)) x) (c .before .layout-of .ensures) chosen
 
 pub pick-spec : {M : Type 1} → statement M
 pick-spec =
     tie.close
     (tie.spec
-    tested-requires
-    enum-known-taken
+    pick-tested-requires
     enum-told
+    enum-told-2
     sub-result
     part-result-start
     part-result-end
@@ -79,5 +88,6 @@ pick-spec =
     record-at-requires
     record-at-requires-2
     chosen-pass-requires
+    layout-of-requires
     stretch-requires
     returns-2)

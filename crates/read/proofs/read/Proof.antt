@@ -1,15 +1,17 @@
 -- `read` meets its contract: the area is cleared, the tests decide, and what passes them is read.
-use denote.Ref.{now}
-use Rattle.layouts.specs.Layouts.{layoutOf}
-use Rattle.layouts.specs.Refusals.{refusal}
-use mathlib.Core.Path.{sym, ap, _∙_}
-use Prim.Native.Nat.{ℕ}
-use native.Mathlib.Omega.{arith}
-use lib.ListN.{length, replicate}
-use Rattle.layouts.proofs.Refusals.{taken-passed, taken-refused}
-use Rattle.read.specs.Outcomes.{readTests, readAnswer, readArea}
-use Rattle.read.proofs.Passing.{readable, area-whole}
 use borrow.Author.Needs.{needs}
+use mathlib.Core.Path.{ap, _∙_}
+use Prim.Native.Nat.{ℕ, _*_}
+use native.Mathlib.Omega.{arith}
+use denote.Ref.{now}
+use lib.ListN.{length, replicate}
+use Rattle.cells.specs.Cells.{cell}
+use Rattle.layouts.specs.declared.Track.{Track}
+use Rattle.layouts.proofs.Refusals.{told-passed, answer-refused, answer-passed}
+use Rattle.walk.specs.Outcomes.{met}
+use Rattle.read.specs.Answers.{areaOf}
+use Rattle.read.specs.Outcomes.{reading, refusedReading, readAnswer, readArea}
+use Rattle.read.proofs.Passing.{modest, read-known, area-whole}
 use Rattle.read.proofs.read.Statement.{statement}
 use Rattle.read.proofs.read.Tie as tie
 
@@ -19,29 +21,28 @@ read-tested-requires c κs = search needs
 clear-requires : tie.Need-clear-requires
 clear-requires c κs = search needs
 
-enum-known-chosen : tie.Need-enum-known-chosen
-enum-known-chosen c = search needs
+enum-known-tested : tie.Need-enum-known-tested
+enum-known-tested c = search needs
 
-enum-known-chosen-2 : tie.Need-enum-known-chosen-2
-enum-known-chosen-2 c = search needs
+enum-told : tie.Need-enum-told
+enum-told c = search needs
 
-cast-read-track : tie.Need-cast-read-track
-unfolding readTests
-cast-read-track c =
-    let a = readable _ _ _ _ _ _ _ (c .before .before .before .before .before .before .before .read-tested .ensures) (c .before .chosen2 .given .1) in
-    omega (arith, a .cylinders)
-
-cast-read-track-2 : tie.Need-cast-read-track-2
-unfolding readTests
-cast-read-track-2 c =
-    let a = readable _ _ _ _ _ _ _ (c .before .before .before .before .before .before .before .read-tested .ensures) (c .before .chosen2 .given .1) in
-    omega (arith, a .sides)
+track-of-requires : tie.Need-track-of-requires
+track-of-requires c κs = search needs
 
 read-track-requires : tie.Need-read-track-requires
-unfolding readTests
 read-track-requires c κs =
-    let a = readable _ _ _ _ _ _ _ (c .before .before .before .before .before .before .before .before .read-tested .ensures) (c .before .before .chosen2 .given .1) in
-    (omega (arith, a .long), a .small, c .before .before .before .before .before .before .clear .ensures ∙ ap (λ (k : ℕ). replicate k 0) (area-whole _ _ _ _ _ _ _ (c .before .before .before .before .before .before .before .before .read-tested .ensures) (c .before .before .chosen2 .given .1)))
+    let cleared = c .before .before .before .before .before .before in
+    let tested = cleared .before .before in
+    let a = tested .before .before .before .args in
+    let passes = told-passed _ _ (tested .read-tested .ensures) (c .before .before .enum-told .given .1) in
+    let known = read-known (a .layout) (a .cylinder) (a .side) (length (now (a .image))) (length (now (a .area))) passes in
+    let whole = area-whole (a .layout) (a .cylinder) (a .side) (length (now (a .image))) (length (now (a .area))) passes in
+    let t = c .before .track-of .ensures in (
+      omega (arith, known .long),
+      rw t (modest (a .layout)),
+      rw t (cleared .clear .ensures ∙ ap (λ (k : ℕ). replicate k 0) whole),
+    )
 
 same-length : tie.Need-same-length
 same-length c = search needs
@@ -49,9 +50,15 @@ same-length c = search needs
 returns : tie.Need-returns
 unfolding readAnswer readArea
 returns c =
-    let a = c .before .before .before .before .before .before .before .before .before .before .args in
-    let by = taken-refused (layoutOf (a .layout)) (refusal (readTests (a .layout) (a .cylinder) (a .side) (length (now (a .image))) (length (now (a .area))))) _ (sym (c .before .before .before .before .before .before .before .read-tested .ensures) ∙ c .before .chosen .given .1) in
-    record { answers = rw by; leaves = rw by (c .before .before .before .before .before .clear .ensures) }
+    let cleared = c .before .before .before .before .before in
+    let tested = cleared .before .before in
+    let told = tested .read-tested .ensures in
+    let given = length (now (tested .before .before .before .args .area)) in
+    let refuses = c .before .tested .given .1 in
+    record {
+      answers = answer-refused _ refusedReading _ _ told _ refuses;
+      leaves = cleared .clear .ensures ∙ answer-refused _ (λ f. replicate given 0) _ _ told _ refuses;
+    }
 
 same-length-2 : tie.Need-same-length-2
 same-length-2 c = search needs
@@ -59,9 +66,19 @@ same-length-2 c = search needs
 returns-2 : tie.Need-returns-2
 unfolding readAnswer readArea
 returns-2 c =
-    let a = c .before .before .before .before .before .before .before .before .before .before .before .before .before .before .args in
-    let k = taken-passed (layoutOf (a .layout)) (c .before .before .before .before .before .chosen2 .given .0 .0) (refusal (readTests (a .layout) (a .cylinder) (a .side) (length (now (a .image))) (length (now (a .area))))) (sym (c .before .before .before .before .before .before .before .before .before .before .before .read-tested .ensures) ∙ c .before .before .before .before .before .chosen2 .given .1) in
-    record { answers = rw (k .0, ← k .1) (c .before .before .read-track .ensures .0); leaves = rw (k .0, ← k .1) (c .before .before .read-track .ensures .1) }
+    let named = c .before .before .before .before in
+    let passed = named .before in
+    let tested = passed .before .before .before .before .before .before in
+    let a = tested .before .before .before .args in
+    let told = tested .read-tested .ensures in
+    let passes = passed .enum-told .given .1 in
+    let t = named .track-of .ensures in
+    let e = c .before .before .read-track .ensures in
+    let image = now (a .image) in
+    record {
+      answers = e .0 ∙ ap (λ (x : Track). reading x image) t ∙ answer-passed _ _ _ _ told passes;
+      leaves = e .1 ∙ ap (λ (x : Track). areaOf x (cell image) (8 * length image) (met x image)) t ∙ answer-passed _ _ _ _ told passes;
+    }
 
 pub read-spec : {M : Type 1} → statement M
 read-spec =
@@ -69,10 +86,9 @@ read-spec =
     (tie.spec
     read-tested-requires
     clear-requires
-    enum-known-chosen
-    enum-known-chosen-2
-    cast-read-track
-    cast-read-track-2
+    enum-known-tested
+    enum-told
+    track-of-requires
     read-track-requires
     same-length
     returns

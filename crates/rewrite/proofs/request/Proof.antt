@@ -5,11 +5,14 @@ use borrow.Author.Needs.{needs}
 use Rattle.rewrite.proofs.request.Statement.{statement}
 use Rattle.rewrite.proofs.request.Tie as tie
 
-tested-requires : tie.Need-tested-requires
-tested-requires c κs = search needs
+call-tests-requires : tie.Need-call-tests-requires
+call-tests-requires c κs = search needs
 
-enum-known-refusal : tie.Need-enum-known-refusal
-enum-known-refusal c = search needs
+enum-known-tested : tie.Need-enum-known-tested
+enum-known-tested c = search needs
+
+returns : tie.Need-returns
+returns c = asked-wrong _ _ _ _ _ _ _ _ (c .before .before .before .call-tests .ensures) _ (c .before .tested .given .1)
 
 enum-told : tie.Need-enum-told
 enum-told c = search needs
@@ -19,28 +22,27 @@ locate-requires c κs = search needs
 
 noted-requires : tie.Need-noted-requires
 noted-requires c κs =
-    let t = c .before .before .before in
+    let k = c .before in
+    let t = k .before .before in
     let a = t .before .before .before .args in
-    cell-small (a .layout) (a .cylinder) (a .side) (a .sector) (a .mark) (now (a .contents)) (now (a .image)) _ (t .tested .ensures)
-    _ (c .before .enum-told .given .1) _ (c .locate .ensures)
-
-returns : tie.Need-returns
-returns c = asked-wrong _ _ _ _ _ _ _ _ (c .before .before .before .tested .ensures) _ (c .before .refusal .given .1)
+    cell-small (a .layout) (a .cylinder) (a .side) (a .sector) (a .mark) (now (a .contents)) (now (a .image)) _ (t .call-tests .ensures)
+    (k .enum-told .given .1) _ (c .locate .ensures)
 
 returns-2 : tie.Need-returns-2
 returns-2 c =
-    let l = c .before in
-    let t = l .before .before .before in
-    asked-right _ _ _ _ _ _ _ _ (t .tested .ensures) _ (l .before .enum-told .given .1) _ (l .locate .ensures) _ (c .noted .ensures)
+    let w = c .before in
+    let k = w .before in
+    let t = k .before .before in
+    asked-right _ _ _ _ _ _ _ _ (t .call-tests .ensures) (k .enum-told .given .1) _ (w .locate .ensures) _ (c .noted .ensures)
 
 pub request-spec : {M : Type 1} → statement M
 request-spec =
     tie.close
     (tie.spec
-    tested-requires
-    enum-known-refusal
+    call-tests-requires
+    enum-known-tested
+    returns
     enum-told
     locate-requires
     noted-requires
-    returns
     returns-2)

@@ -1,55 +1,61 @@
 -- `stores_in_all` meets its contract: the number of a layout that there is, or none.
+use mathlib.Core.Path.{ap, _∙_}
+use Prim.Native.Nat.{_≤_}
 use native.Mathlib.Omega.{arith}
-use Rattle.rewrite.proofs.Counted.{count-most}
-use Rattle.rewrite.proofs.Judged.{number-right, none-counted, some-counted}
+use Rattle.layouts.specs.declared.Layout.{Layout}
+use Rattle.layouts.proofs.Refusals.{answer-refused, answer-passed}
+use Rattle.rewrite.specs.Stores.{storeCount}
+use Rattle.rewrite.proofs.Counted.{size-small, count-most}
 use borrow.Author.Needs.{needs}
 use Rattle.rewrite.proofs.stores_in_all.Statement.{statement}
 use Rattle.rewrite.proofs.stores_in_all.Tie as tie
 
-numbered-requires : tie.Need-numbered-requires
-numbered-requires c κs = search needs
+layout-number-requires : tie.Need-layout-number-requires
+layout-number-requires c κs = search needs
 
 enum-told : tie.Need-enum-told
 enum-told c = search needs
 
-enum-known-layout : tie.Need-enum-known-layout
-enum-known-layout c = search needs
+enum-told-2 : tie.Need-enum-told-2
+enum-told-2 c = search needs
+
+returns : tie.Need-returns
+returns c = answer-refused _ (λ f. 0) _ _ (c .before .before .layout-number .ensures) _ (c .enum-told2 .given .1)
+
+layout-of-requires : tie.Need-layout-of-requires
+layout-of-requires c κs = search needs
 
 cast-count-of : tie.Need-cast-count-of
 cast-count-of c = search needs
 
 count-of-requires : tie.Need-count-of-requires
-count-of-requires c κs =
-    let n = c .before .before .before .before in
-    (search needs, number-right (n .before .args .plan .layout) _ _ (n .numbered .ensures) (c .before .before .layout .given .1) .1)
+count-of-requires c κs = (search needs, rw (c .before .layout-of .ensures) (size-small _))
 
 cast-result : tie.Need-cast-result
 cast-result c =
-    let n = c .before .before .before .before .before in
-    let l = c .before .before .before .layout .given in
-    let k = number-right (n .before .args .plan .layout) _ _ (n .numbered .ensures) (l .1) in
-    omega (arith, k .1, c .count-of .ensures, count-most (l .0 .0) (n .before .args .plan .place) (n .before .args .bytes))
-
-returns : tie.Need-returns
-returns c =
-    let n = c .before .before in
-    none-counted (n .before .args .plan) (n .before .args .bytes) _ (n .numbered .ensures) _ (c .enum-told .given .1)
+    let k = c .before .before .layout-of in
+    let a = c .before .before .before .before .before .before .args in
+    let small : k .result .size ≤ 65535 = rw (k .ensures) (size-small _) in
+    omega (arith, small, c .count-of .ensures, count-most (k .result) (a .plan .place) (a .bytes))
 
 returns-2 : tie.Need-returns-2
 returns-2 c =
-    let n = c .before .before .before .before .before in
-    some-counted (n .before .args .plan) (n .before .args .bytes) _ (n .numbered .ensures) _ _
-    (c .before .before .before .layout .given .1) (c .count-of .ensures)
+    let k = c .before .before in
+    let n = k .before .before .before in
+    c .count-of .ensures
+    ∙ ap (λ (l : Layout). storeCount l (n .before .args .plan .place) (n .before .args .bytes)) (k .layout-of .ensures)
+    ∙ answer-passed _ (λ f. 0) _ _ (n .layout-number .ensures) (k .before .enum-told .given .1)
 
 pub stores-in-all-spec : {M : Type 1} → statement M
 stores-in-all-spec =
     tie.close
     (tie.spec
-    numbered-requires
+    layout-number-requires
     enum-told
-    enum-known-layout
+    enum-told-2
+    returns
+    layout-of-requires
     cast-count-of
     count-of-requires
     cast-result
-    returns
     returns-2)

@@ -2,7 +2,8 @@
 use mathlib.Core.Path.{ap, _∙_}
 use mathlib.Core.List.{[], _∷_}
 use Rattle.read.specs.declared.Reading.{Reading}
-use Rattle.station.specs.Outcomes.{verdictNumber, answerList}
+use Rattle.station.specs.Records.{recordList}
+use Rattle.station.proofs.Passes.{read-told}
 use borrow.Author.Needs.{needs}
 use Rattle.station.proofs.station_read.Statement.{statement}
 use Rattle.station.proofs.station_read.Tie as tie
@@ -10,11 +11,8 @@ use Rattle.station.proofs.station_read.Tie as tie
 read-requires : tie.Need-read-requires
 read-requires c κs = search needs
 
-list-answers-requires : tie.Need-list-answers-requires
-list-answers-requires c κs = search needs
-
-list-counts-requires : tie.Need-list-counts-requires
-list-counts-requires c κs = search needs
+list-of-requires : tie.Need-list-of-requires
+list-of-requires c κs = search needs
 
 verdict-number-requires : tie.Need-verdict-number-requires
 verdict-number-requires c κs = search needs
@@ -24,12 +22,13 @@ same-length c = search needs
 
 returns : tie.Need-returns
 returns c =
-    let r = c .before .before .before .before .before .before .before .before .read .ensures in
+    let listed = c .before .before in
+    let r = listed .before .before .before .read .ensures in
     record {
-      numbered = c .verdict-number .ensures ∙ ap (λ (x : Reading). verdictNumber (x .verdict)) (r .answers);
+      numbered = c .verdict-number .ensures _ (ap (λ (x : Reading). x .verdict) (r .answers) ∙ read-told _ _ _ _ _);
       leaves = r .leaves;
-      answered = c .before .before .before .list-answers .ensures ∙ ap (λ (x : Reading). answerList (x .sectors) (x .records .list)) (r .answers);
-      counted = c .before .list-counts .ensures ∙ ap (λ (x : Reading). x .bad ∷ x .foreign ∷ []) (r .answers);
+      answered = listed .list-of .ensures ∙ ap (λ (x : Reading). recordList (x .sectors) (x .records .list)) (r .answers);
+      counted = ap (λ (x : Reading). x .bad ∷ x .foreign ∷ []) (r .answers);
     }
 
 pub station-read-spec : {M : Type 1} → statement M
@@ -37,8 +36,7 @@ station-read-spec =
     tie.close
     (tie.spec
     read-requires
-    list-answers-requires
-    list-counts-requires
+    list-of-requires
     verdict-number-requires
     same-length
     returns)

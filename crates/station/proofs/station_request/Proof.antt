@@ -12,18 +12,21 @@ use Rattle.station.proofs.station_request.Tie as tie
 request-requires : tie.Need-request-requires
 request-requires c κs = search needs
 
-list-request-requires : tie.Need-list-request-requires
-list-request-requires c κs = search needs
+noted-requires : tie.Need-noted-requires
+noted-requires c κs = search needs
+
+request-number-requires : tie.Need-request-number-requires
+request-number-requires c κs = search needs
 
 returns : tie.Need-returns
 returns c =
-    let told = c .list-request .ensures in
     let r = c .before .before in
     let image = now (r .before .before .before .args .image) in
+    let e = r .request .ensures in
     record {
-      numbered = told .0 ∙ ap requestedNumber (r .request .ensures);
-      notes = told .1 ∙ ap (λ (x : Requested). noted x (length image)) (r .request .ensures);
+      numbered = c .request-number .ensures ∙ ap requestedNumber e;
+      notes = c .before .noted .ensures ∙ ap (λ (x : Requested). noted x (length image)) e;
     }
 
 pub station-request-spec : {M : Type 1} → statement M
-station-request-spec = tie.close (tie.spec request-requires list-request-requires returns)
+station-request-spec = tie.close (tie.spec request-requires noted-requires request-number-requires returns)

@@ -39,11 +39,14 @@ loop-again c =
     let l = c .before .before in
     (search needs, simp length-set (l .loop .inv .1), l .loop .inv .2 ∙ copy-turn _ _ _ _ (c .before .loop-test .taken))
 
+add-result : tie.Need-add-result Inv-loop μ-loop
+add-result c = search needs
+
 same-length : tie.Need-same-length Inv-loop μ-loop
 same-length c = search needs
 
 returns : tie.Need-returns Inv-loop μ-loop
-returns c = sym (c .before .loop .inv .2 ∙ copy-end _ _ _ _ (c .loop-test .left))
+returns c = (sym (c .before .loop .inv .2 ∙ copy-end _ _ _ _ (c .loop-test .left)), refl)
 
 pub write-string-spec : {M : Type 1} → statement M
 write-string-spec =
@@ -58,5 +61,6 @@ write-string-spec =
     add-i
     loop-less
     loop-again
+    add-result
     same-length
     returns)

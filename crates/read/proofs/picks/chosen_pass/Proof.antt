@@ -4,27 +4,27 @@ use borrow.Author.Needs.{needs}
 use Rattle.read.proofs.picks.chosen_pass.Statement.{statement}
 use Rattle.read.proofs.picks.chosen_pass.Tie as tie
 
-is-answered-requires : tie.Need-is-answered-requires
-is-answered-requires c κs = search needs
+carries-bytes-requires : tie.Need-carries-bytes-requires
+carries-bytes-requires c κs = search needs
 
 returns : tie.Need-returns
 returns c =
     let a = c .before .before .args in
-    takes-first (a .first) (a .second) _ (c .before .is-answered .ensures) (c .if1 .taken)
+    takes-first (a .first) (a .second) _ (c .before .carries-bytes .ensures) (c .if1 .taken)
 
-is-answered-requires-2 : tie.Need-is-answered-requires-2
-is-answered-requires-2 c κs = search needs
+carries-bytes-requires-2 : tie.Need-carries-bytes-requires-2
+carries-bytes-requires-2 c κs = search needs
 
 returns-2 : tie.Need-returns-2
 returns-2 c =
     let a = c .before .before .before .before .args in
-    takes-second (a .first) (a .second) _ (c .before .before .before .is-answered .ensures) _ (c .before .is-answered2 .ensures) (c .before .before .if1 .left) (c .if2 .taken)
+    takes-second (a .first) (a .second) _ (c .before .before .before .carries-bytes .ensures) _ (c .before .carries-bytes2 .ensures) (c .before .before .if1 .left) (c .if2 .taken)
 
 returns-3 : tie.Need-returns-3
 returns-3 c =
     let a = c .before .before .before .before .args in
-    takes-neither (a .first) (a .second) _ (c .before .before .before .is-answered .ensures) _ (c .before .is-answered2 .ensures) (c .before .before .if1 .left) (c .if2 .left)
+    takes-neither (a .first) (a .second) _ (c .before .before .before .carries-bytes .ensures) _ (c .before .carries-bytes2 .ensures) (c .before .before .if1 .left) (c .if2 .left)
 
 pub chosen-pass-spec : {M : Type 1} → statement M
 chosen-pass-spec =
-    tie.close (tie.spec is-answered-requires returns is-answered-requires-2 returns-2 returns-3)
+    tie.close (tie.spec carries-bytes-requires returns carries-bytes-requires-2 returns-2 returns-3)

@@ -4,22 +4,24 @@ use mathlib.Core.Path.{_≡_, sym, ap, _∙_}
 use Prim.Native.Nat.{_+_, _-_, _*_, _≤_}
 use native.Mathlib.Omega.{arith}
 use denote.Ref.{now}
-use lib.ListN.{length, length-replicate}
+use lib.ListN.{length, set, length-replicate}
 use Rattle.cells.specs.Cells.{cell}
-use Rattle.read.specs.Walk.{walk, events}
-use Rattle.read.specs.Turns.{blank}
+use Rattle.walk.specs.Walk.{walk}
+use Rattle.walk.specs.Outcomes.{met}
+use Rattle.read.specs.Outcomes.{unread}
 use Rattle.read.proofs.States.{State, state-start, state-left, state-bad, state-foreign, state-accepted, state-end}
-use Rattle.read.proofs.Walking.{walk-past, walk-ends, walk-all, turn-left, turn-onward, turn-accepted}
+use Rattle.walk.proofs.Walking.{walk-past, walk-ends, walk-all, turn-left, turn-onward, turn-accepted}
 use Rattle.read.proofs.tracks.read_track.Statement.{statement}
 use Rattle.read.proofs.tracks.read_track.Tie as tie
 
 abbrev Inv-loop : tie.InvT-loop
-Inv-loop layout cylinder side image area₀ records₀ bad₀ foreign₀ place₀ end area records bad foreign place =
-    (place ≤ 8 * length image) × (bad + foreign ≤ place) × (length area ≡ layout .sectors * layout .size)
-    × State layout (cell image) (8 * length image) (events layout cylinder side (cell image) (8 * length image)) (walk layout cylinder side (cell image) (8 * length image) (8 * length image - place) place) (records .list) area bad foreign
+Inv-loop track image area₀ records₀ bad₀ foreign₀ place₀ end area records bad foreign place =
+    (place ≤ 8 * length image) × (bad + foreign ≤ place) × (length area ≡ track .layout .sectors * track .layout .size)
+    × State track (cell image) (8 * length image) (met track image) (walk track (cell image) (8 * length image) (8 * length image - place) place)
+    (records .list) area bad foreign
 
 abbrev μ-loop : tie.MeasureT-loop
-μ-loop layout cylinder side image area₀ records₀ bad₀ foreign₀ place₀ end area records bad foreign place =
+μ-loop track image area₀ records₀ bad₀ foreign₀ place₀ end area records bad foreign place =
     8 * length image - place
 
 mul-end : tie.Need-mul-end Inv-loop μ-loop
@@ -28,7 +30,7 @@ mul-end c = search needs
 loop-holds : tie.Need-loop-holds Inv-loop μ-loop
 loop-holds c =
     let s = c .before .before .pre in
-    (search needs, search needs, ap length (s .2) ∙ length-replicate _ 0, state-start _ _ _ _ _ _ (walk-all _ _ _ _ _) (s .2))
+    (search needs, search needs, ap length (s .2) ∙ length-replicate _ 0, state-start _ _ _ _ _ _ (walk-all _ _ _) (s .2))
 
 next-round-requires : tie.Need-next-round-requires Inv-loop μ-loop
 next-round-requires c κs = search needs
@@ -45,7 +47,7 @@ loop-again c =
       search needs,
       omega (arith, l .inv .0, l .inv .1),
       l .inv .2,
-      state-left _ _ _ (l .inv .3) (walk-ends _ _ _ _ _ _ _ (c .before .before .before .loop-test .taken) (c .before .before .next-round .ensures) (c .enum-told .given .1)),
+      state-left _ _ _ (l .inv .3) (walk-ends _ _ _ _ _ (c .before .before .before .loop-test .taken) (c .before .before .next-round .ensures) (c .enum-told .given .1)),
     )
 
 enum-known-round : tie.Need-enum-known-round Inv-loop μ-loop
@@ -66,61 +68,131 @@ add-foreign c = search needs
 enum-known-event : tie.Need-enum-known-event Inv-loop μ-loop
 enum-known-event c = search needs
 
+sub-before : tie.Need-sub-before Inv-loop μ-loop
+sub-before c =
+    let accepted = c .before in
+    let ran = accepted .before .before .before .before .before in
+    let s = ran .before .before .before .before .before .pre in
+    let few : 8 * length (now (ran .before .before .before .before .before .args .image)) ≤ 2147483648 = omega (arith, s .0) in
+    let k = turn-accepted _ _ _ _ _ _ _ _ _ (ran .next-round .ensures) (accepted .before .before .before .round .given .1) (accepted .event .given .1) few in
+    k .0
+
+mul-before : tie.Need-mul-before Inv-loop μ-loop
+mul-before c =
+    let accepted = c .before in
+    let ran = accepted .before .before .before .before .before in
+    let s = ran .before .before .before .before .before .pre in
+    let few : 8 * length (now (ran .before .before .before .before .before .args .image)) ≤ 2147483648 = omega (arith, s .0) in
+    let k = turn-accepted _ _ _ _ _ _ _ _ _ (ran .next-round .ensures) (accepted .before .before .before .round .given .1) (accepted .event .given .1) few in
+    omega (arith, k .1, s .1 .1)
+
+element-copy-out-before : tie.Need-element-copy-out-before Inv-loop μ-loop
+element-copy-out-before c =
+    let accepted = c .before in
+    let ran = accepted .before .before .before .before .before in
+    let s = ran .before .before .before .before .before .pre in
+    let few : 8 * length (now (ran .before .before .before .before .before .args .image)) ≤ 2147483648 = omega (arith, s .0) in
+    let k = turn-accepted _ _ _ _ _ _ _ _ _ (ran .next-round .ensures) (accepted .before .before .before .round .given .1) (accepted .event .given .1) few in
+    omega (arith, k .0, k .1, s .1 .1)
+
 enter-requires : tie.Need-enter-requires Inv-loop μ-loop
 enter-requires c κs =
-    let s = c .before .before .before .before .before .before .before .before .before .before .before .before .pre in
-    let few : 8 * length (now (c .before .before .before .before .before .before .before .before .before .before .before .before .args .image)) ≤ 2147483648 = omega (arith, s .0) in
-    let k = turn-accepted _ _ _ _ _ _ _ _ _ _ _ (c .before .before .before .before .before .before .before .next-round .ensures) (c .before .before .before .before .before .round .given .1) (c .before .before .event .given .1) few in
-    (s .0, s .1, k .0, k .1, k .2, c .before .before .before .before .before .before .before .before .before .loop .inv .2)
+    let accepted = c .before .before .before in
+    let ran = accepted .before .before .before .before .before in
+    let s = ran .before .before .before .before .before .pre in
+    let few : 8 * length (now (ran .before .before .before .before .before .args .image)) ≤ 2147483648 = omega (arith, s .0) in
+    let k = turn-accepted _ _ _ _ _ _ _ _ _ (ran .next-round .ensures) (accepted .before .before .before .round .given .1) (accepted .event .given .1) few in
+    (s .0, s .1, k .0, k .1, k .2, ran .before .before .loop .inv .2)
+
+sub-after : tie.Need-sub-after Inv-loop μ-loop
+sub-after c =
+    let accepted = c .before .before .before .before .before .before in
+    let ran = accepted .before .before .before .before .before in
+    let s = ran .before .before .before .before .before .pre in
+    let few : 8 * length (now (ran .before .before .before .before .before .args .image)) ≤ 2147483648 = omega (arith, s .0) in
+    let k = turn-accepted _ _ _ _ _ _ _ _ _ (ran .next-round .ensures) (accepted .before .before .before .round .given .1) (accepted .event .given .1) few in
+    k .0
+
+mul-after : tie.Need-mul-after Inv-loop μ-loop
+mul-after c =
+    let accepted = c .before .before .before .before .before .before in
+    let ran = accepted .before .before .before .before .before in
+    let s = ran .before .before .before .before .before .pre in
+    let few : 8 * length (now (ran .before .before .before .before .before .args .image)) ≤ 2147483648 = omega (arith, s .0) in
+    let k = turn-accepted _ _ _ _ _ _ _ _ _ (ran .next-round .ensures) (accepted .before .before .before .round .given .1) (accepted .event .given .1) few in
+    omega (arith, k .1, s .1 .1)
+
+element-set-from-after : tie.Need-element-set-from-after Inv-loop μ-loop
+element-set-from-after c =
+    let accepted = c .before .before .before .before .before .before in
+    let ran = accepted .before .before .before .before .before in
+    let s = ran .before .before .before .before .before .pre in
+    let few : 8 * length (now (ran .before .before .before .before .before .args .image)) ≤ 2147483648 = omega (arith, s .0) in
+    let k = turn-accepted _ _ _ _ _ _ _ _ _ (ran .next-round .ensures) (accepted .before .before .before .round .given .1) (accepted .event .given .1) few in
+    omega (arith, k .0, k .1, s .1 .1)
 
 loop-less-2 : tie.Need-loop-less-2 Inv-loop μ-loop
 loop-less-2 c =
-    let o = turn-onward _ _ _ _ _ _ _ _ _ _ (c .before .before .before .before .before .next-round .ensures) (c .before .before .before .round .given .1) (c .enum-told2 .given .1) in
+    let meets = c .before .before .before in
+    let o = turn-onward _ _ _ _ _ _ _ _ (meets .before .before .next-round .ensures) (meets .round .given .1) (c .enum-told2 .given .1) in
     omega (arith, o .0, o .1)
 
 loop-again-2 : tie.Need-loop-again-2 Inv-loop μ-loop
 loop-again-2 c =
-    let l = c .before .before .before .before .before .before .before .loop in
-    let o = turn-onward _ _ _ _ _ _ _ _ _ _ (c .before .before .before .before .before .next-round .ensures) (c .before .before .before .round .given .1) (c .enum-told2 .given .1) in
-    (o .1, omega (arith, o .0, l .inv .1), l .inv .2, state-bad _ _ _ (l .inv .3) (turn-left _ _ _ _ _ _ _ _ _ _ (c .before .before .before .before .before .next-round .ensures) (c .before .before .before .round .given .1) (c .enum-told2 .given .1) (c .before .before .before .before .before .before .loop-test .taken)))
+    let meets = c .before .before .before in
+    let ran = meets .before .before in
+    let l = ran .before .before .loop in
+    let o = turn-onward _ _ _ _ _ _ _ _ (ran .next-round .ensures) (meets .round .given .1) (c .enum-told2 .given .1) in
+    let left = turn-left _ _ _ _ _ _ _ _ (ran .next-round .ensures) (meets .round .given .1) (c .enum-told2 .given .1) (ran .before .loop-test .taken) in
+    (o .1, omega (arith, o .0, l .inv .1), l .inv .2, state-bad _ _ _ (l .inv .3) left)
 
 loop-less-3 : tie.Need-loop-less-3 Inv-loop μ-loop
 loop-less-3 c =
-    let o = turn-onward _ _ _ _ _ _ _ _ _ _ (c .before .before .before .before .before .next-round .ensures) (c .before .before .before .round .given .1) (c .enum-told3 .given .1) in
+    let meets = c .before .before .before in
+    let o = turn-onward _ _ _ _ _ _ _ _ (meets .before .before .next-round .ensures) (meets .round .given .1) (c .enum-told3 .given .1) in
     omega (arith, o .0, o .1)
 
 loop-again-3 : tie.Need-loop-again-3 Inv-loop μ-loop
 loop-again-3 c =
-    let l = c .before .before .before .before .before .before .before .loop in
-    let o = turn-onward _ _ _ _ _ _ _ _ _ _ (c .before .before .before .before .before .next-round .ensures) (c .before .before .before .round .given .1) (c .enum-told3 .given .1) in
-    (o .1, omega (arith, o .0, l .inv .1), l .inv .2, state-foreign _ _ _ (l .inv .3) (turn-left _ _ _ _ _ _ _ _ _ _ (c .before .before .before .before .before .next-round .ensures) (c .before .before .before .round .given .1) (c .enum-told3 .given .1) (c .before .before .before .before .before .before .loop-test .taken)))
+    let meets = c .before .before .before in
+    let ran = meets .before .before in
+    let l = ran .before .before .loop in
+    let o = turn-onward _ _ _ _ _ _ _ _ (ran .next-round .ensures) (meets .round .given .1) (c .enum-told3 .given .1) in
+    let left = turn-left _ _ _ _ _ _ _ _ (ran .next-round .ensures) (meets .round .given .1) (c .enum-told3 .given .1) (ran .before .loop-test .taken) in
+    (o .1, omega (arith, o .0, l .inv .1), l .inv .2, state-foreign _ _ _ (l .inv .3) left)
 
 loop-less-4 : tie.Need-loop-less-4 Inv-loop μ-loop
 loop-less-4 c =
-    let o = turn-onward _ _ _ _ _ _ _ _ _ _ (c .before .before .before .before .before .before .before .before .before .before .next-round .ensures) (c .before .before .before .before .before .before .before .before .round .given .1) (c .before .before .before .before .before .event .given .1) in
+    let accepted = c .before .before .before .before .before .before in
+    let ran = accepted .before .before .before .before .before in
+    let o = turn-onward _ _ _ _ _ _ _ _ (ran .next-round .ensures) (accepted .before .before .before .round .given .1) (accepted .event .given .1) in
     omega (arith, o .0, o .1)
 
 loop-again-4 : tie.Need-loop-again-4 Inv-loop μ-loop
 loop-again-4 c =
-    let s = c .before .before .before .before .before .before .before .before .before .before .before .before .before .before .before .pre in
-    let few : 8 * length (now (c .before .before .before .before .before .before .before .before .before .before .before .before .before .before .before .args .image)) ≤ 2147483648 = omega (arith, s .0) in
-    let l = c .before .before .before .before .before .before .before .before .before .before .before .before .loop in
-    let o = turn-onward _ _ _ _ _ _ _ _ _ _ (c .before .before .before .before .before .before .before .before .before .before .next-round .ensures) (c .before .before .before .before .before .before .before .before .round .given .1) (c .before .before .before .before .before .event .given .1) in
-    let k = turn-accepted _ _ _ _ _ _ _ _ _ _ _ (c .before .before .before .before .before .before .before .before .before .before .next-round .ensures) (c .before .before .before .before .before .before .before .before .round .given .1) (c .before .before .before .before .before .event .given .1) few in
-    let e = c .before .before .enter in (
+    let accepted = c .before .before .before .before .before .before in
+    let ran = accepted .before .before .before .before .before in
+    let s = ran .before .before .before .before .before .pre in
+    let few : 8 * length (now (ran .before .before .before .before .before .args .image)) ≤ 2147483648 = omega (arith, s .0) in
+    let k = turn-accepted _ _ _ _ _ _ _ _ _ (ran .next-round .ensures) (accepted .before .before .before .round .given .1) (accepted .event .given .1) few in
+    let l = ran .before .before .loop in
+    let o = turn-onward _ _ _ _ _ _ _ _ (ran .next-round .ensures) (accepted .before .before .before .round .given .1) (accepted .event .given .1) in
+    let e = c .before .before .enter in
+    let left = turn-left _ _ _ _ _ _ _ _ (ran .next-round .ensures) (accepted .before .before .before .round .given .1) (accepted .event .given .1)
+    (ran .before .loop-test .taken) in (
       o .1,
       omega (arith, o .0, l .inv .1),
       e .kept .1 .1 .1 .1 .1 .0 ∙ l .inv .2,
-      state-accepted _ _ _ (l .inv .3) _ _ blank (turn-left _ _ _ _ _ _ _ _ _ _ (c .before .before .before .before .before .before .before .before .before .before .next-round .ensures) (c .before .before .before .before .before .before .before .before .round .given .1) (c .before .before .before .before .before .event .given .1) (c .before .before .before .before .before .before .before .before .before .before .before .loop-test .taken)) (s .1 .1) (k .0) (k .1) (e .ensures .0) (e .ensures .1),
+      state-accepted _ _ _ (l .inv .3) _ _ unread left (s .1 .1) (k .0) (k .1) (ap (λ x. set (l .records .list) (accepted .event .given .0 .0 - 1) x) (e .ensures .0)) (e .ensures .1),
     )
 
 same-length : tie.Need-same-length Inv-loop μ-loop
-same-length c = c .before .loop .inv .2 ∙ sym (ap length (c .before .before .before .before .pre .2) ∙ length-replicate _ 0)
+same-length c = c .before .before .loop .inv .2 ∙ sym (ap length (c .before .before .before .before .before .pre .2) ∙ length-replicate _ 0)
 
 returns : tie.Need-returns Inv-loop μ-loop
 returns c =
-    let l = c .before .loop in
-    let z = state-end _ _ _ (l .inv .3) (walk-past _ _ _ _ _ _ _ (c .loop-test .left)) in
+    let l = c .before .before .loop in
+    let z = state-end _ _ _ (l .inv .3) (walk-past _ _ _ _ _ (c .before .loop-test .left)) in
     (rw (← z .0, ← z .2, ← z .3), z .1)
 
 pub read-track-spec : {M : Type 1} → statement M
@@ -141,7 +213,13 @@ read-track-spec =
     enum-told-3
     add-foreign
     enum-known-event
+    sub-before
+    mul-before
+    element-copy-out-before
     enter-requires
+    sub-after
+    mul-after
+    element-set-from-after
     loop-less-2
     loop-again-2
     loop-less-3

@@ -12,7 +12,7 @@ enum-told c = search needs
 slot-part-requires : tie.Need-slot-part-requires
 slot-part-requires c κs =
     let s = c .before .before in
-    subst (Known (s .args .layout) (s .args .sector)) (c .enum-told .given .1) (s .pre)
+    subst (Known (s .args .sector)) (c .enum-told .given .1) (s .pre)
 
 enum-told-2 : tie.Need-enum-told-2
 enum-told-2 c = search needs
@@ -20,7 +20,7 @@ enum-told-2 c = search needs
 slot-part-requires-2 : tie.Need-slot-part-requires-2
 slot-part-requires-2 c κs =
     let s = c .before .before in
-    subst (Known (s .args .layout) (s .args .sector)) (c .enum-told2 .given .1) (s .pre)
+    subst (Known (s .args .sector)) (c .enum-told2 .given .1) (s .pre)
 
 enum-told-3 : tie.Need-enum-told-3
 enum-told-3 c = search needs
@@ -39,14 +39,10 @@ returns-2 c =
     c .slot-part2 .ensures ∙ ap (partOf (layoutOf (a .layout)) (a .sector)) (sym (c .before .enum-told2 .given .1))
 
 returns-3 : tie.Need-returns-3
-returns-3 c =
-    let a = c .before .before .args in
-    ap (partOf (layoutOf (a .layout)) (a .sector)) (sym (c .enum-told3 .given .1))
+returns-3 c = search needs
 
 returns-4 : tie.Need-returns-4
-returns-4 c =
-    let a = c .before .before .args in
-    ap (partOf (layoutOf (a .layout)) (a .sector)) (sym (c .enum-told4 .given .1))
+returns-4 c = search needs
 
 pub part-of-spec : {M : Type 1} → statement M
 part-of-spec =

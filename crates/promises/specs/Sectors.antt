@@ -1,0 +1,37 @@
+-- How one sector of an image reads, and what a sector reads back as that was written: what demands 2 and 3 say of it. It is said in the papers'
+-- numbers (01, "How a track is read").
+use mathlib.Core.Bool.{cond}
+use mathlib.Core.List.{List}
+use mathlib.Core.Path.{_≡_}
+use Prim.Native.Nat.{ℕ, _*_}
+use lib.Dec.{eqb}
+use lib.ListN.{length, replicate}
+use Rattle.cells.specs.Cells.{cell}
+use Rattle.layouts.specs.declared.Track.{Track}
+use Rattle.marks.specs.Marks.{markByte}
+use Rattle.marks.specs.declared.Mark.the-variants.{Control}
+use Rattle.read.specs.Answers.{Sector, answerNumber, sectorOf}
+use Rattle.walk.specs.Outcomes.{met}
+
+-- How sector x of an image of this track reads.
+abbrev pub sectorIn : Track → List ℕ → ℕ → Sector
+sectorIn t image x = sectorOf t (cell image) (8 * length image) (met t image) x
+
+-- What is said of a sector: the number of its answer, and what its slot holds.
+pub record Back : Type 0 where
+  pub number : ℕ
+  pub bytes : List ℕ
+
+-- What a sector that was written with this mark byte and these bytes reads back as: 2 after F8, else 1, and the very bytes. (The cylinder of its
+-- track decides with them which records there are: 004, 7.4.2.4.3.)
+abbrev pub readsBack : (cylinder mark : ℕ) → List ℕ → Back
+readsBack cylinder mark bytes = record { number = cond (eqb mark (markByte Control)) 2 1; bytes = bytes }
+
+-- What a sector of this size reads as whose rewrite is under way: refused as open, and zeros.
+abbrev pub underWay : (size : ℕ) → Back
+underWay size = record { number = 25; bytes = replicate size 0 }
+
+-- A sector reads so.
+pub record ReadsSo (sector : Sector) (back : Back) : Type 0 where
+  pub answers : answerNumber (sector .known .answer) ≡ back .number
+  pub holds : sector .slot ≡ back .bytes

@@ -1,0 +1,16 @@
+-- the ways that a round can go
+pub mod Ways
+-- the walk, round by round
+pub mod Walking
+-- events one behind the other: counts, and the blocks of a sector
+pub mod Events
+-- the six bytes of an address
+pub mod Addresses
+-- how the code's round goes the ways of the definition's
+pub mod Stepping
+-- where a sector's block is, as the walk goes on
+pub mod Seeking
+-- a located block lies within the image
+pub mod Fitting
+-- what is known of a call that its tests pass
+pub mod Passing

@@ -1,0 +1,36 @@
+-- `located_next` meets its contract, case by case.
+use mathlib.Core.Path.{sym, ap}
+use Rattle.walk.specs.Turns.{locatedNext}
+use Rattle.walk.specs.declared.Located.{Located}
+use borrow.Author.Needs.{needs}
+use Rattle.walk.proofs.locating.located_next.Statement.{statement}
+use Rattle.walk.proofs.locating.located_next.Tie as tie
+
+enum-told : tie.Need-enum-told
+enum-told c = search needs
+
+enum-told-2 : tie.Need-enum-told-2
+enum-told-2 c = search needs
+
+enum-told-3 : tie.Need-enum-told-3
+enum-told-3 c = search needs
+
+enum-told-4 : tie.Need-enum-told-4
+enum-told-4 c = search needs
+
+returns : tie.Need-returns
+returns c = ap (λ (x : Located). locatedNext x (c .before .before .args .block)) (sym (c .enum-told .given .1))
+
+returns-2 : tie.Need-returns-2
+returns-2 c = search needs
+
+returns-3 : tie.Need-returns-3
+returns-3 c = search needs
+
+returns-4 : tie.Need-returns-4
+returns-4 c = search needs
+
+pub located-next-spec : {M : Type 1} → statement M
+located-next-spec =
+    tie.close
+    (tie.spec enum-told enum-told-2 enum-told-3 enum-told-4 returns returns-2 returns-3 returns-4)

@@ -1,0 +1,4 @@
+pub mod Walk
+pub mod Events
+pub mod Turns
+pub mod Outcomes
