@@ -171,15 +171,15 @@ module _ (plan : Plan) (mark : ℕ) (contents image : List ℕ) (l : Layout) (na
         }
 
     -- The store that is next, by the mark that is asked for.
-    module _ (m : Mark) (asked : m ≡ markOf mark) (s : Store) (next : s ≡ getD (stores l image (plan .place) m contents) (plan .made) noStore) where
+    module _ (s : Store) (next : s ≡ getD (stores l image (plan .place) (markOf mark) contents) (plan .made) noStore) where
       -- The image has the byte that is stored.
       pub store-within : s .byte < length image
       store-within =
-          let number = kind l image (plan .place) m contents (accepted .whole) (plan .made) (accepted .within) in
-          rw next (inside l image (plan .place) m contents (accepted .room) (plan .made) _ number .within)
+          let number = kind l image (plan .place) (markOf mark) contents (accepted .whole) (plan .made) (accepted .within) in
+          rw next (inside l image (plan .place) (markOf mark) contents (accepted .room) (plan .made) _ number .within)
 
       next-planned : s ≡ getD (planned (layoutOf (plan .layout)) plan mark contents image) (plan .made) noStore
-      next-planned = next ∙ rw (asked, named)
+      next-planned = next ∙ rw named
 
       -- The store is made.
       pub made-step : Steps plan mark contents image (step.Made (planAfter plan)) (stored image s)

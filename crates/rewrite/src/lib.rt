@@ -82,7 +82,7 @@ pub fn step(plan: Plan, mark: u32, contents: &[u8], image: &mut [u8]) -> Stepped
     }
     let store = values::store_of(
         layout,
-        marks::mark_of(mark as u8),
+        mark as u8,
         contents,
         image,
         plan.place as usize,

@@ -1,5 +1,6 @@
 // What a step stores, and where: the papers' list, of which each call works out one store. A data byte's cells need only the byte before it;
-// the EDC's, and the byte after the block, go over all the contents.
+// the EDC's, and the byte after the block, go over all the contents. The new mark goes as its byte, FB or F8, up to where its string is asked for:
+// most steps ask for none of it.
 use super::Store;
 use cells::Mode;
 use cells::Pair;
@@ -9,7 +10,7 @@ ghost use mathlib.Core.List.{_∷_};
 ghost use mathlib.Core.Path.{_≡_};
 ghost use Prim.Native.Nat.{_+_, _*_, _%_, _≤_, _<_};
 ghost use lib.ListN.{length, getD};
-ghost use Rattle.marks.specs.Marks.{markByte};
+ghost use Rattle.marks.specs.Marks.{markByte, markOf};
 ghost use Rattle.rewrite.specs.Stores.{noStore, blockEnd, follows, newEdc, field, joined as joinedTo, stores, storeCount};
 
 // The byte after the block whose mark begins at the cell `place`.
@@ -44,28 +45,28 @@ pub(crate) fn count_of(layout: Layout, place: usize, bytes: usize) -> usize
 }
 
 // The EDC of the new bytes, counted over the new mark too.
-fn edc_of(mode: Mode, mark: Mark, contents: &[u8]) -> u16
-    ensures { λ r. ⌜ r ≡ newEdc mode mark (now (contents .entry)) ⌝ }
+fn edc_of(mode: Mode, mark: u8, contents: &[u8]) -> u16
+    ensures { λ r. ⌜ r ≡ newEdc mode (markOf mark) (now (contents .entry)) ⌝ }
 {
-    edc::bytes_entered(marks::register_after(mode, mark), contents)
+    edc::bytes_entered(marks::register_after(mode, marks::mark_of(mark)), contents)
 }
 
 // The last bit before byte `i` of the contents; before the first stands the new mark.
-fn bit_before(mark: Mark, contents: &[u8], i: usize) -> u8
+fn bit_before(mark: u8, contents: &[u8], i: usize) -> u8
     requires { ⌜ i ≤ length (now contents) ⌝ }
-    ensures { λ r. ⌜ (r ≡ getD (markByte mark ∷ now (contents .entry)) i 0 % 2) × (r < 2) ⌝ }
+    ensures { λ r. ⌜ (r ≡ getD (markByte (markOf mark) ∷ now (contents .entry)) i 0 % 2) × (r < 2) ⌝ }
 {
     if i == 0 {
-        return marks::last_bit(mark);
+        return marks::last_bit(marks::mark_of(mark));
     }
     contents[i - 1] % 2
 }
 
 // The two image bytes of byte `i` of the new bytes and their EDC, coded as if the new mark stood before them.
-fn coded_pair(mode: Mode, mark: Mark, contents: &[u8], i: usize) -> Pair
+fn coded_pair(mode: Mode, mark: u8, contents: &[u8], i: usize) -> Pair
     requires { ⌜ i < length (now contents) + 2 ⌝ }
-    ensures { λ r. ⌜ r .first ≡ getD (field mode mark (now (contents .entry))) (2 * i) 0 ⌝ }
-    ensures { λ r. ⌜ r .second ≡ getD (field mode mark (now (contents .entry))) (2 * i + 1) 0 ⌝ }
+    ensures { λ r. ⌜ r .first ≡ getD (field mode (markOf mark) (now (contents .entry))) (2 * i) 0 ⌝ }
+    ensures { λ r. ⌜ r .second ≡ getD (field mode (markOf mark) (now (contents .entry))) (2 * i + 1) 0 ⌝ }
 {
     if i < contents.len() {
         return cells::coded(mode, bit_before(mark, contents, i), contents[i]);
@@ -79,9 +80,9 @@ fn coded_pair(mode: Mode, mark: Mark, contents: &[u8], i: usize) -> Pair
 }
 
 // Image byte `at` of them.
-fn coded_byte(mode: Mode, mark: Mark, contents: &[u8], at: usize) -> u8
+fn coded_byte(mode: Mode, mark: u8, contents: &[u8], at: usize) -> u8
     requires { ⌜ at < 2 * (length (now contents) + 2) ⌝ }
-    ensures { λ r. ⌜ r ≡ getD (field mode mark (now (contents .entry))) at 0 ⌝ }
+    ensures { λ r. ⌜ r ≡ getD (field mode (markOf mark) (now (contents .entry))) at 0 ⌝ }
 {
     let pair = coded_pair(mode, mark, contents, at / 2);
     if at % 2 == 0 {
@@ -91,8 +92,8 @@ fn coded_byte(mode: Mode, mark: Mark, contents: &[u8], at: usize) -> u8
 }
 
 // The byte after the block, behind the new EDC.
-fn joined(mode: Mode, mark: Mark, contents: &[u8], byte: u8) -> u8
-    ensures { λ r. ⌜ r ≡ joinedTo (newEdc mode mark (now (contents .entry)) % 2) byte ⌝ }
+fn joined(mode: Mode, mark: u8, contents: &[u8], byte: u8) -> u8
+    ensures { λ r. ⌜ r ≡ joinedTo (newEdc mode (markOf mark) (now (contents .entry)) % 2) byte ⌝ }
 {
     if byte / 64 % 2 == 0 {
         let bit = (edc_of(mode, mark, contents) % 2) as u8;
@@ -104,7 +105,7 @@ fn joined(mode: Mode, mark: Mark, contents: &[u8], byte: u8) -> u8
 // The store number `made`.
 pub(crate) fn store_of(
     layout: Layout,
-    mark: Mark,
+    mark: u8,
     contents: &[u8],
     image: &[u8],
     place: usize,
@@ -112,7 +113,7 @@ pub(crate) fn store_of(
 ) -> Store
     requires { ⌜ (length (now contents) ≡ layout .size) × (layout .size ≤ 65535) ⌝ }
     requires { ⌜ (place < 4294967296) × (made < storeCount layout place (length (now image))) ⌝ }
-    ensures { λ r. ⌜ r ≡ getD (stores layout (now (image .entry)) place mark (now (contents .entry))) made noStore ⌝ }
+    ensures { λ r. ⌜ r ≡ getD (stores layout (now (image .entry)) place (markOf mark) (now (contents .entry))) made noStore ⌝ }
 {
     let mode = layout.mode;
     let end = place / 8 + 2 * marks::mark_bytes(mode) - 1;
@@ -137,6 +138,6 @@ pub(crate) fn store_of(
     }
     Store {
         byte: end,
-        value: marks::last_byte(mode, mark),
+        value: marks::last_byte(mode, marks::mark_of(mark)),
     }
 }

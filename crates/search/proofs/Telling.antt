@@ -18,11 +18,11 @@ use Rattle.marks.specs.declared.Mark.{Mark}
 use Rattle.marks.specs.declared.Mark.the-variants.{Index, Identifier, Data, Control, Open}
 use Rattle.marks.proofs.Spelling.{Stand, stand-spells, stands-bytes, one-string, string-width, is-false}
 use Rattle.search.specs.Search.{among, choose, sought, standing}
-use Rattle.search.specs.Aids.{wordAt, markWord, spelledBy, Tells}
+use Rattle.search.specs.Aids.{wordAt, markWord, spelledBy, Tells, Begins}
 use Rattle.search.specs.declared.Kinds.{Kinds}
 use Rattle.search.specs.declared.Found.{Found}
 use Rattle.search.specs.declared.Found.the-variants.{At, Nothing}
-use Rattle.search.proofs.Searching.{searchable, standing-none, sought-off, sought-stands}
+use Rattle.search.proofs.Searching.{searchable, standing-none, standing-beyond, sought-off, sought-stands}
 use Rattle.search.proofs.Clash.{start, string-parts}
 use Rattle.search.proofs.Numbers.{octets, small, window, spelled, number, stand-less}
 
@@ -177,3 +177,13 @@ module _ (mode : Mode) (c : ℕ → ℕ) (p : ℕ) (k : Mark) (n : ℕ) (kinds :
 
   pub told-other : among kinds k ≡ false → standing mode c n kinds p ≡ Nothing
   told-other a = told n kinds ∙ rw a
+
+-- What a byte of the image s begins, in the mode that an arm of the code knows: the mark that is told, where it has room.
+module _ {mode : Mode} (m : Mode) (same : mode ≡ m) (s : List ℕ) (at : ℕ) where
+  pub begun-beyond : length s < at + 2 * markBytes m → Begins mode s at Index
+  begun-beyond h kinds = rw same (standing-beyond m (cell s) (8 * length s) kinds (8 * at) (omega arith))
+
+  pub begun-within : (k : Mark) → at + 2 * markBytes m ≤ length s → Tells mode (cell s) (8 * at) k → Begins mode s at k
+  begun-within k h told kinds =
+      let room : 8 * at + markCells mode ≤ 8 * length s = rw same (omega arith) in
+      told (8 * length s) kinds ∙ rw (le-leb (8 * at + markCells mode) (8 * length s) room)

@@ -39,6 +39,11 @@ Tells mode c p mark =
     (n : ℕ) (kinds : Kinds)
     → standing mode c n kinds p ≡ choose (among kinds mark) (choose (leb (p + markCells mode) n) (At p mark) Nothing) Nothing
 
+-- This mark is what a byte of the image begins, if it is of the kinds, or it is the index mark, and then no mark that can be looked for is.
+abbrev pub Begins : Mode → List ℕ → (byte : ℕ) → Mark → Type 0
+Begins mode image byte mark =
+    (kinds : Kinds) → standing mode (cell image) (8 * length image) kinds (8 * byte) ≡ choose (among kinds mark) (At (8 * byte) mark) Nothing
+
 -- What a byte says of the places up to eight cells before it: no mark of the kinds begins k cells before it, unless k is one of the two
 -- numbers that r has, the greater one in its lower four bits.
 abbrev pub Rules : Mode → Kinds → ℕ → ℕ → Type 0

@@ -50,9 +50,6 @@ pub fn mark_at(mode: Mode, kinds: Kinds, image: &[u8], at: usize) -> Found
     if image.len() < at {
         return Found::Nothing;
     }
-    if image.len() - at < 2 * marks::mark_bytes(mode) {
-        return Found::Nothing;
-    }
     let mark = places::begun(mode, image, at);
     if places::is_among(kinds, mark) {
         return Found::At(8 * at, mark);

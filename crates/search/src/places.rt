@@ -10,7 +10,7 @@ ghost use lib.ListN.{length};
 ghost use Rattle.cells.specs.Cells.{cell};
 ghost use Rattle.marks.specs.Marks.{markBytes};
 ghost use Rattle.search.specs.Search.{among, standing};
-ghost use Rattle.search.specs.Aids.{wordAt, spelledBy, Tells, Near};
+ghost use Rattle.search.specs.Aids.{wordAt, spelledBy, Tells, Begins, Near};
 
 // The string of each mark that can be looked for, as one word.
 const IDENTIFIER_FM: u64 = (marks::IDENTIFIER_FM[0] as u64) * 256 + marks::IDENTIFIER_FM[1] as u64;
@@ -140,16 +140,27 @@ pub(crate) fn standing(mode: Mode, kinds: Kinds, image: &[u8], next: usize, back
     Found::Nothing
 }
 
-// The mark that the byte `at` begins, by all its bytes at once; the index mark says that none is.
+// The mark that the byte `at` begins, by all its bytes at once; the index mark says that none is. The modes share nothing here, not even the
+// order in which bytes are taken: what both begin with, the back end does before it tells them apart, and then loads MFM's bytes one by one.
 pub(crate) fn begun(mode: Mode, image: &[u8], at: usize) -> Mark
-    requires { ⌜ at + 2 * markBytes mode ≤ length (now image) ⌝ }
-    ensures { λ r. ⌜ Tells mode (cell (now (image .entry))) (8 * at) r ⌝ }
+    requires { ⌜ at ≤ length (now image) ⌝ }
+    ensures { λ r. ⌜ Begins mode (now (image .entry)) at r ⌝ }
 {
+    let room = image.len() - at;
     match mode {
         Mode::Fm => {
-            let word = word_of(0, 0, image[at], image[at + 1]);
+            if room < marks::DATA_FM.len() {
+                return Mark::Index;
+            }
+            let second = image[at + 1];
+            let word = word_of(0, 0, image[at], second);
             spelled_by(Mode::Fm, word as u64)
         }
-        Mode::Mfm => spelled_by(Mode::Mfm, eight(image, at)),
+        Mode::Mfm => {
+            if room < marks::DATA_MFM.len() {
+                return Mark::Index;
+            }
+            spelled_by(Mode::Mfm, eight(image, at))
+        }
     }
 }

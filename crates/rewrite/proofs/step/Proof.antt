@@ -38,42 +38,39 @@ returns c =
 enum-told : tie.Need-enum-told
 enum-told c = search needs
 
-cast-mark-of : tie.Need-cast-mark-of
-cast-mark-of c = omega (arith, known c .byte)
-
-mark-of-requires : tie.Need-mark-of-requires
-mark-of-requires c κs = search needs
-
 cast-store-of : tie.Need-cast-store-of
-cast-store-of c = search needs
+cast-store-of c = omega (arith, known c .byte)
 
 cast-store-of-2 : tie.Need-cast-store-of-2
 cast-store-of-2 c = search needs
 
+cast-store-of-3 : tie.Need-cast-store-of-3
+cast-store-of-3 c = search needs
+
 store-of-requires : tie.Need-store-of-requires
 store-of-requires c κs =
-    let k = known (c .before .before .before .before) in
+    let k = known (c .before .before .before) in
     ((k .whole, k .small), (search needs, k .within))
 
 slice-write-image : tie.Need-slice-write-image
 slice-write-image c =
-    let p = c .before .before .before .before .before in
+    let p = c .before .before .before .before in
     let t = p .before .before in
     store-within _ _ _ _ _ (t .before .before .layout-of .ensures) _ (t .plan-tests .ensures) (p .enum-told .given .1)
-    _ (c .before .before .before .before .mark-of .ensures) _ (c .store-of .ensures)
+    _ (c .store-of .ensures)
 
-add-t20 : tie.Need-add-t20
-add-t20 c = omega (arith, known (c .before .before .before .before .before .before) .few)
+add-t19 : tie.Need-add-t19
+add-t19 c = omega (arith, known (c .before .before .before .before .before) .few)
 
 same-length-2 : tie.Need-same-length-2
 same-length-2 c = search needs
 
 returns-2 : tie.Need-returns-2
 returns-2 c =
-    let p = c .before .before .before .before .before .before in
+    let p = c .before .before .before .before .before in
     let t = p .before .before in
     made-step _ _ _ _ _ (t .before .before .layout-of .ensures) _ (t .plan-tests .ensures) (p .enum-told .given .1)
-    _ (c .before .before .before .before .before .mark-of .ensures) _ (c .before .store-of .ensures)
+    _ (c .before .store-of .ensures)
 
 pub step-spec : {M : Type 1} → statement M
 step-spec =
@@ -85,12 +82,11 @@ step-spec =
     same-length
     returns
     enum-told
-    cast-mark-of
-    mark-of-requires
     cast-store-of
     cast-store-of-2
+    cast-store-of-3
     store-of-requires
     slice-write-image
-    add-t20
+    add-t19
     same-length-2
     returns-2)

@@ -1,5 +1,6 @@
 -- `coded_pair` meets its contract: a byte of the contents after the byte before it, or one of the EDC.
 use denote.Ref.{now}
+use Rattle.marks.specs.Marks.{markOf}
 use Rattle.rewrite.proofs.Worked.{data-coded, upper-coded, lower-coded}
 use borrow.Author.Needs.{needs}
 use Rattle.rewrite.proofs.values.coded_pair.Statement.{statement}
@@ -18,7 +19,7 @@ returns : tie.Need-returns
 returns c =
     let b = c .before .before in
     let s = b .before .before .before in
-    data-coded _ (s .args .mark) (now (s .args .contents)) _ _ _ (b .before .if1 .taken) (b .bit-before .ensures .0) (c .coded .ensures)
+    data-coded _ (markOf (s .args .mark)) (now (s .args .contents)) _ _ _ (b .before .if1 .taken) (b .bit-before .ensures .0) (c .coded .ensures)
 
 edc-of-requires : tie.Need-edc-of-requires
 edc-of-requires c κs = search needs
@@ -37,7 +38,7 @@ returns-2 c =
     let b = c .before in
     let k = b .before .before in
     let s = k .before .before .before in
-    upper-coded _ (s .args .mark) (now (s .args .contents)) _ _ (k .edc-of .ensures) _ _ (b .before .if2 .taken) (b .bit-before2 .ensures .0)
+    upper-coded _ (markOf (s .args .mark)) (now (s .args .contents)) _ _ (k .edc-of .ensures) _ _ (b .before .if2 .taken) (b .bit-before2 .ensures .0)
     (c .coded2 .ensures)
 
 cast-coded : tie.Need-cast-coded
@@ -50,7 +51,7 @@ returns-3 : tie.Need-returns-3
 returns-3 c =
     let k = c .before .before in
     let s = k .before .before .before in
-    lower-coded _ (s .args .mark) (now (s .args .contents)) _ _ (k .edc-of .ensures) _ (k .before .if1 .left) (c .before .if2 .left) (s .pre)
+    lower-coded _ (markOf (s .args .mark)) (now (s .args .contents)) _ _ (k .edc-of .ensures) _ (k .before .if1 .left) (c .before .if2 .left) (s .pre)
     (c .coded3 .ensures)
 
 pub coded-pair-spec : {M : Type 1} → statement M

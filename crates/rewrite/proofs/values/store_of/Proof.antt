@@ -4,6 +4,7 @@ use Prim.Native.Nat.{_+_, _-_, _*_, _/_}
 use native.Mathlib.Omega.{arith}
 use denote.Ref.{now}
 use lib.ListN.{length}
+use Rattle.marks.specs.Marks.{markOf}
 use Rattle.rewrite.specs.Stores.{markEnd}
 use Rattle.rewrite.proofs.Counted.{count-most}
 use Rattle.rewrite.proofs.Worked.{opened, coded-in, after-within, joined-in, closed}
@@ -79,7 +80,7 @@ shared-slice-read-joined c =
     let n = c .before .before in
     let m = n .before .before .before in
     let s = m .before .before .before in
-    after-within _ (now (s .args .image)) _ (s .args .mark) (now (s .args .contents)) (s .pre .0 .0) _ (ended m) _
+    after-within _ (now (s .args .image)) _ (markOf (s .args .mark)) (now (s .args .contents)) (s .pre .0 .0) _ (ended m) _
     (n .before .if2 .left) (s .pre .1 .1) _ (n .count-of .ensures) (c .before .if3 .taken)
 
 joined-requires : tie.Need-joined-requires
@@ -94,16 +95,19 @@ returns-3 c =
     (n .before .if2 .left) (s .pre .1 .1) _ (n .count-of .ensures) _ (c .before .before .if3 .taken)
     (c .joined .ensures)
 
+mark-of-requires : tie.Need-mark-of-requires
+mark-of-requires c κs = search needs
+
 last-byte-requires-2 : tie.Need-last-byte-requires-2
 last-byte-requires-2 c κs = search needs
 
 returns-4 : tie.Need-returns-4
 returns-4 c =
-    let n = c .before .before in
+    let n = c .before .before .before in
     let m = n .before .before .before in
     let s = m .before .before .before in
     closed _ (now (s .args .image)) _ _ (now (s .args .contents)) (s .pre .0 .0) _ (ended m) _
-    (n .before .if2 .left) (s .pre .1 .1) _ (n .count-of .ensures) _ (c .before .if3 .left) (c .last-byte2 .ensures)
+    (n .before .if2 .left) (s .pre .1 .1) _ (n .count-of .ensures) _ (c .before .before .if3 .left) (rw (← c .before .mark-of .ensures) (c .last-byte2 .ensures))
 
 pub store-of-spec : {M : Type 1} → statement M
 store-of-spec =
@@ -127,5 +131,6 @@ store-of-spec =
     shared-slice-read-joined
     joined-requires
     returns-3
+    mark-of-requires
     last-byte-requires-2
     returns-4)
