@@ -1,11 +1,11 @@
 // Prints what a track holds: layout, cylinder and side, one byte each, and then the image, from the standard input.
 // What the system answers to a read and a write is tested by bin/test-scripts; no proof speaks of it.
+use answers::Records;
 use layouts::MOST_SECTORS;
 use libc::STDERR_FILENO;
 use libc::STDIN_FILENO;
 use libc::STDOUT_FILENO;
 use read::Reading;
-use read::Records;
 ghost use Prim.Native.Nat.{_≤_};
 ghost use Rattle.io.specs.Counts.{Counts};
 
@@ -71,7 +71,7 @@ fn print_answers(sectors: usize, records: Records) -> bool {
         if index < sectors {
             let record = records.list[index];
             let answer = record.answer;
-            let number = read::answer_number(answer);
+            let number = answers::answer_number(answer);
             if !print_line(index as u64 + 1, number as u64) {
                 return false;
             }

@@ -6,26 +6,15 @@ use lib.ListN.{length}
 use Rattle.verdicts.specs.Tests.{refusal, by}
 use Rattle.format.specs.Order.{formatted}
 use Rattle.format.specs.Refusals.{formatTests}
-use Rattle.format.specs.declared.Formatted.{Formatted}
-use Rattle.format.specs.declared.Formatted.the-variants.{Written}
-use Rattle.format.specs.declared.Formatted.the-variants as formats
 use Rattle.layouts.specs.Layouts.{layoutOf, numbers}
 use Rattle.layouts.specs.Tracks.{trackOf}
-use Rattle.layouts.specs.Refusals.{refusalNumber}
-
--- The number of an answer: 0 for written, else the refusal's (01, "Refused calls").
-abbrev pub formattedNumber : Formatted → ℕ
-formattedNumber Written = 0
-formattedNumber (formats.Refused f) = refusalNumber f
-
--- `formatted_number` answers the number of an answer.
-abbrev pub IsFormattedNumber : Formatted → ℕ → Type 0
-IsFormattedNumber answer number = number ≡ formattedNumber answer
+use Rattle.layouts.specs.Refusals.{told}
+use Rattle.layouts.specs.declared.Checked.{Checked}
 
 module _ (layout cylinder side : ℕ) (contents marks before : List ℕ) where
-  -- What `format` answers: the refusal of the first test that applies, or that the track is written.
-  abbrev pub formatAnswer : Formatted
-  formatAnswer = by (refusal (formatTests layout cylinder side contents marks (length before))) Written formats.Refused
+  -- What `format` answers: the refusal of the first test that applies, or that none does.
+  abbrev pub formatAnswer : Checked
+  formatAnswer = told (refusal (formatTests layout cylinder side contents marks (length before)))
 
   -- What it leaves in the image: exactly the cells of the track with its sectors in natural order; a refused call leaves it as it was.
   abbrev pub formatImage : List ℕ
@@ -35,6 +24,6 @@ module _ (layout cylinder side : ℕ) (contents marks before : List ℕ) where
       (λ f. before)
 
 -- `format` refuses by the first test that applies, and then leaves the image as it was; else it leaves the track.
-pub record Formats (layout cylinder side : ℕ) (contents marks before : List ℕ) (answer : Formatted) (after : List ℕ) : Type 0 where
+pub record Formats (layout cylinder side : ℕ) (contents marks before : List ℕ) (answer : Checked) (after : List ℕ) : Type 0 where
   pub answers : answer ≡ formatAnswer layout cylinder side contents marks before
   pub leaves : after ≡ formatImage layout cylinder side contents marks before

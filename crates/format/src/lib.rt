@@ -1,8 +1,7 @@
 // The formatter: exactly the cells that ISO 7065-2 lays down for a track.
 use layouts::Checked;
 use layouts::MOST_SECTORS;
-use layouts::Refusal;
-ghost use Rattle.format.specs.Outcomes.{Formats, IsFormattedNumber};
+ghost use Rattle.format.specs.Outcomes.{Formats};
 
 mod lengths;
 mod refusals;
@@ -13,15 +12,8 @@ mod write;
 const NATURAL: [u8; MOST_SECTORS] =
     *b"\x01\x02\x03\x04\x05\x06\x07\x08\x09\x0A\x0B\x0C\x0D\x0E\x0F\x10\x11\x12\x13\x14\x15\x16\x17\x18\x19\x1A";
 
-// What format answers.
-pub enum Formatted {
-    // the image holds the track
-    Written,
-    // nothing was changed
-    Refused(Refusal),
-}
-
-// Formats a track: `data` has the sectors' bytes and `marks` a byte FB or F8 for each, by sector number; `image` has the table's length.
+// Formats a track: `data` has the sectors' bytes and `marks` a byte FB or F8 for each, by sector number; `image` has the table's length. A refused
+// call changes nothing.
 pub fn format(
     layout: u32,
     cylinder: u32,
@@ -29,26 +21,14 @@ pub fn format(
     data: &[u8],
     marks: &[u8],
     image: &mut [u8],
-) -> Formatted
+) -> Checked
     ensures { λ r. ⌜ Formats layout cylinder side (now («data» .entry)) (now (marks .entry)) (now (image .entry)) r (now (image .exit)) ⌝ }
 {
-    match refusals::tested(layout, cylinder, side, data, marks, image.len()) {
-        Checked::Refused(refusal) => Formatted::Refused(refusal),
-        Checked::Passed => {
-            let track = layouts::track_of(layout, cylinder, side);
-            let sectors = track.layout.sectors;
-            track::write_track(track, data, marks, &NATURAL[0..sectors], image);
-            Formatted::Written
-        }
+    let tested = refusals::tested(layout, cylinder, side, data, marks, image.len());
+    if let Checked::Passed = tested {
+        let track = layouts::track_of(layout, cylinder, side);
+        let sectors = track.layout.sectors;
+        track::write_track(track, data, marks, &NATURAL[0..sectors], image);
     }
-}
-
-// The number of an answer: 0 for written, else the refusal's.
-pub fn formatted_number(answer: Formatted) -> u8
-    ensures { λ r. ⌜ IsFormattedNumber answer r ⌝ }
-{
-    match answer {
-        Formatted::Written => 0,
-        Formatted::Refused(refusal) => layouts::refusal_number(refusal),
-    }
+    tested
 }

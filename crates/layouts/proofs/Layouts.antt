@@ -1,13 +1,15 @@
 -- Laws of the layouts: every number has one of the four, taken by cases once, and their numbers add up by computing;
--- a track takes numbered ones only.
-use mathlib.Core.Path.{_≡_, refl}
+-- a track takes numbered ones only; a slot lies within its area.
+use mathlib.Core.Path.{_≡_, refl, ap, _∙_}
 use mathlib.Core.Bool.{Bool, true, false, false≢true, not, _&&_, _||_}
-use Prim.Native.Nat.{ℕ, zero, suc, _≤_}
+use Prim.Native.Nat.{ℕ, zero, suc, _+_, _-_, _*_, _≤_}
+use native.Mathlib.Nat.{suc-mul, add-mul}
 use native.Mathlib.Omega.{arith}
+use borrow.Author.Needs.{needs}
 use borrow.Author.Tests.{eqb-true, leb-true}
 use lib.Dec.{leb, eqb}
 use Rattle.layouts.specs.declared.Layout.{Layout}
-use Rattle.layouts.specs.Layouts.{layout0, layout1, layout2, layout3, highestMfm, highest, layoutOf, sectorFields, fields, Adds}
+use Rattle.layouts.specs.Layouts.{layout0, layout1, layout2, layout3, highestMfm, highest, layoutOf, mostSectors, sectorFields, fields, Adds}
 use Rattle.layouts.specs.Tracks.{allowed}
 
 -- What holds of the four layouts holds of the layout of every number.
@@ -38,6 +40,10 @@ adds =
     (record { area = refl; image = refl; track = refl })
     (record { area = refl; image = refl; track = refl })
 
+-- No layout has more than the most sectors.
+pub sectors-few : (n : ℕ) → layoutOf n .sectors ≤ mostSectors
+sectors-few = every-layout (λ l. l .sectors ≤ mostSectors) (search needs) (search needs) (search needs) (search needs)
+
 either : {P : Type 0} (a b : Bool) → (a ≡ true → P) → (b ≡ true → P) → (a || b) ≡ true → P
 either true b f g e = f refl
 either false b f g e = g e
@@ -59,3 +65,11 @@ allowed-known layout cylinder side h =
         (λ e. omega (arith, eqb-true layout 0 (last a _ e)))
         (λ e. omega (arith, eqb-true layout 1 (last b _ e))))
         (λ e. omega (arith, leb-true layout highestMfm (last d _ e)))
+
+-- A sector's slot lies within the area of k slots.
+pub slot-room : (size k s : ℕ) → 1 ≤ s → s ≤ k → (s - 1) * size + size ≤ k * size
+slot-room size k s low high =
+    let e : k ≡ suc (s - 1) + (k - s) = omega arith in
+    let f : k * size ≡ (s - 1) * size + size + (k - s) * size =
+    ap (λ (i : ℕ). i * size) e ∙ add-mul (suc (s - 1)) (k - s) size ∙ ap (λ (i : ℕ). i + (k - s) * size) (suc-mul (s - 1) size) in
+    omega (arith, f)

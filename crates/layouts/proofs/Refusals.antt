@@ -1,14 +1,15 @@
 -- Laws of the refusals: their numbers tell them apart, by a way back from the number; what is told of tests when more tests follow; and
--- what is known of a track once its tests have passed.
+-- what is known of a track and of a sector once their tests have passed.
 use mathlib.Core.Path.{_≡_, refl, sym, ap, _∙_}
 use mathlib.Core.Bool.{Bool, true, false, _||_}
 use mathlib.Core.List.{List, [], _∷_, _++_}
 use native.Mathlib.Omega.{arith}
-use Prim.Native.Nat.{ℕ, _≤_}
+use Prim.Native.Nat.{ℕ, zero, suc, _≤_}
 use borrow.Author.Tests.{ltb-false, not-false}
+use lib.Dec.{eqb, ltb}
 use lib.ListN.{getD}
 use Rattle.verdicts.specs.Tests.{Test, Verdict, passed, refused, refusal, by}
-use Rattle.verdicts.proofs.Tests.{clash, append-passed, append-refused, first-passed}
+use Rattle.verdicts.proofs.Tests.{clash, append-passed, append-refused, first-passed, by-map}
 use Rattle.layouts.specs.declared.Refusal.{Refusal}
 use Rattle.layouts.specs.declared.Refusal.the-variants.{ImageLength, CylinderNumber, SideNumber, LayoutNumber, AreaLength, MarkBytes, ControlRecord}
 use Rattle.layouts.specs.declared.Refusal.the-variants.{Overfull, SectorNumber, Unreadable, OffBoundary, Finished, NoBlock}
@@ -16,7 +17,7 @@ use Rattle.layouts.specs.declared.Checked.{Checked}
 use Rattle.layouts.specs.declared.Checked.the-variants.{Passed, Refused}
 use Rattle.layouts.specs.Layouts.{highest}
 use Rattle.layouts.specs.Tracks.{highestCylinder, highestSide}
-use Rattle.layouts.specs.Refusals.{refusalNumber, told, trackTests}
+use Rattle.layouts.specs.Refusals.{refusalNumber, checkedNumber, told, trackTests, sectorTest}
 use Rattle.layouts.proofs.Layouts.{allowed-known}
 
 -- The refusal of a number.
@@ -114,3 +115,24 @@ module _ {A : Type 0} (this : A) (that : Refusal → A) (v : Verdict Refusal) (x
   pub answer-passed : x ≡ Passed → this ≡ by v this that
   unfolding by
   answer-passed h = sym (ap (λ (y : Verdict Refusal). by y this that) (told-passed v x e h))
+
+-- A sector number that passes is one of the sectors'.
+pub sector-known : (sectors sector : ℕ) → sectorTest sectors sector .applies ≡ false → (1 ≤ sector) × (sector ≤ sectors)
+sector-known sectors sector h = (
+  low sector (or-left (eqb sector 0) (ltb sectors sector) h),
+  ltb-false _ _ (or-right (eqb sector 0) (ltb sectors sector) h),
+)
+  where
+    low : (s : ℕ) → eqb s 0 ≡ false → 1 ≤ s
+    low zero e = absurd (clash cc)
+    low (suc s) e = omega arith
+
+-- The number of what is told of a verdict.
+pub number-told : (v : Verdict Refusal) → checkedNumber (told v) ≡ by v 0 refusalNumber
+unfolding told
+number-told v = by-map checkedNumber v Passed Refused
+
+-- What is told of one that passes.
+pub told-passing : (v : Verdict Refusal) → v ≡ passed → Passed ≡ told v
+unfolding told by
+told-passing v e = rw e

@@ -6,7 +6,7 @@ use Prim.Native.Nat.{ℕ, zero, suc, _+_, _-_, _*_}
 use lib.ListN.{getD, take, drop}
 use Rattle.cells.specs.declared.Mode.{Mode}
 use Rattle.cells.specs.declared.Mode.the-variants.{Fm, Mfm}
-use Rattle.marks.specs.Marks.{markBytes}
+use Rattle.marks.specs.Marks.{markBytes, markCells}
 use Rattle.layouts.specs.declared.Layout.{Layout}
 
 -- The byte that fills every gap (004, clauses 5 and 6).
@@ -110,6 +110,10 @@ mostSectors = 26
 abbrev pub numbers : ℕ → ℕ → List ℕ
 numbers zero s = []
 numbers (suc k) s = s ∷ numbers k (suc s)
+
+-- The cells of a block with its mark: N data bytes and the EDC (01, "How a track is read", step 4).
+abbrev pub blockCells : Layout → ℕ
+blockCells l = markCells (l .mode) + 16 * (l .size + 2)
 
 -- The slot of sector s in an area: so many bytes for each sector number from 1 on (01, "How a track is read").
 abbrev pub slotIn : (size s : ℕ) → List ℕ → List ℕ

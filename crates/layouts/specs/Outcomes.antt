@@ -10,7 +10,7 @@ use Rattle.layouts.specs.declared.Refusal.{Refusal}
 use Rattle.layouts.specs.declared.Checked.{Checked}
 use Rattle.layouts.specs.Layouts.{gapByte, layoutOf}
 use Rattle.layouts.specs.Tracks.{trackOf}
-use Rattle.layouts.specs.Refusals.{refusalNumber, told, imageTest, numberTest, areaTest, markTest, controlTest, sectorTest, trackTests, readingTests}
+use Rattle.layouts.specs.Refusals.{refusalNumber, checkedNumber, told, imageTest, numberTest, areaTest, markTest, controlTest, sectorTest, trackTests, readingTests}
 
 -- The constants of a layout's type are the definition's.
 abbrev pub IsLayout : Layout → Layout → Type 0
@@ -23,6 +23,10 @@ IsGapByte mode r = r ≡ gapByte mode
 -- The number that the papers give the refusal.
 abbrev pub IsRefusalNumber : Refusal → ℕ → Type 0
 IsRefusalNumber f r = r ≡ refusalNumber f
+
+-- The number of the answer.
+abbrev pub IsCheckedNumber : Checked → ℕ → Type 0
+IsCheckedNumber answer r = r ≡ checkedNumber answer
 
 -- The layout of the number.
 abbrev pub IsLayoutOf : (layout : ℕ) → Layout → Type 0

@@ -34,6 +34,11 @@ refusalNumber NoBlock = 13
 unfoldable pub told : Verdict Refusal → Checked
 told v = by v Passed Refused
 
+-- The number of a call's answer: 0 where it passes, else the refusal's.
+abbrev pub checkedNumber : Checked → ℕ
+checkedNumber Passed = 0
+checkedNumber (Refused f) = refusalNumber f
+
 -- The most bytes of an image that is read or rewritten (01, "Refused calls", 1).
 abbrev pub longestImage : ℕ
 longestImage = 24576

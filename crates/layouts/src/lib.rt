@@ -6,7 +6,7 @@ ghost use mathlib.Core.List.{[], _∷_};
 ghost use Rattle.verdicts.specs.Tests.{refusal};
 ghost use Rattle.layouts.specs.Tracks.{allowed};
 ghost use Rattle.layouts.specs.Refusals.{told};
-ghost use Rattle.layouts.specs.Outcomes.{IsGapByte, IsRefusalNumber, IsLayoutOf, IsTrack};
+ghost use Rattle.layouts.specs.Outcomes.{IsGapByte, IsRefusalNumber, IsCheckedNumber, IsLayoutOf, IsTrack};
 ghost use Rattle.layouts.specs.Outcomes.{IsLayoutNumber, IsTrackNumbers, IsTrackAndImage};
 ghost use Rattle.layouts.specs.Outcomes.{IsImageLength, IsAreaLength, IsMarkByte, IsControlRecord, IsSectorNumber};
 use cells::Mode;
@@ -148,6 +148,16 @@ pub fn refusal_number(refusal: Refusal) -> u8
         Refusal::OffBoundary => 11,
         Refusal::Finished => 12,
         Refusal::NoBlock => 13,
+    }
+}
+
+// The number of a call's answer: 0, or the refusal's.
+pub fn checked_number(answer: Checked) -> u8
+    ensures { λ r. ⌜ IsCheckedNumber answer r ⌝ }
+{
+    match answer {
+        Checked::Passed => 0,
+        Checked::Refused(refusal) => refusal_number(refusal),
     }
 }
 

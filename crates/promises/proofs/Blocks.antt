@@ -1,6 +1,6 @@
 -- What one block reads as: with the mark that was asked for, its bytes and their right EDC it is the sector that was written; with the open mark it is
 -- refused as open. Both demands rest on this.
-use mathlib.Core.Path.{_≡_, refl, sym, ap, _∙_}
+use mathlib.Core.Path.{_≡_, refl, ap, _∙_}
 use mathlib.Core.Bool.{Bool, true, false, cond}
 use mathlib.Core.List.{List, [], _∷_}
 use Prim.Native.Nat.{ℕ, _+_, _≤_}
@@ -12,10 +12,10 @@ use Rattle.marks.specs.Marks.{markByte, markCells, markOf, stands}
 use Rattle.marks.specs.declared.Mark.{Mark}
 use Rattle.marks.specs.declared.Mark.the-variants as marks
 use Rattle.marks.proofs.Spelling.{one-mark, is-false}
-use Rattle.read.specs.Answers.{Sector, answerNumber, slotOf, answering, proved, blockAnswer, blockBytes, identifierRecord, recordFor, sectorOf}
-use Rattle.read.specs.declared.Answer.{Answer}
-use Rattle.read.specs.declared.Answer.the-variants.{Data, Control, Refused}
-use Rattle.read.specs.declared.Fault.the-variants.{OpenMark}
+use Rattle.read.specs.Records.{Sector, answering, proved, blockAnswer, blockBytes, identifierRecord, recordFor, sectorOf}
+use Rattle.answers.specs.Answers.{answerNumber}
+use Rattle.answers.specs.declared.Answer.{Answer}
+use Rattle.answers.specs.declared.Answer.the-variants.{Data, Control}
 use Rattle.verdicts.proofs.Tests.{clash}
 use Rattle.walk.specs.Events.{blocks}
 use Rattle.walk.specs.Walk.{edcRight}

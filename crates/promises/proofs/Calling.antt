@@ -1,31 +1,29 @@
 -- Demand 3 at the doors: a chain of calls of `station_step` is a run of steps.
 use mathlib.Core.Path.{_≡_, refl, sym, ap, ap₂, subst, _∙_}
-use mathlib.Core.List.{List, []}
+use mathlib.Core.List.{List}
 use Prim.Native.Nat.{ℕ, zero, suc, _-_, _≤_}
 use borrow.Author.Tests.{le-ltb}
 use lib.ListN.{length}
-use Rattle.format.specs.Outcomes.{formattedNumber, Formats}
+use Rattle.format.specs.Outcomes.{Formats}
 use Rattle.format.specs.Refusals.{formatTests}
-use Rattle.format.specs.declared.Formatted.the-variants.{Written}
-use Rattle.format.specs.declared.Formatted.the-variants as formats
-use Rattle.layouts.specs.Layouts.{highest, layoutOf, numbers}
+use Rattle.layouts.specs.Layouts.{highest, layoutOf}
 use Rattle.layouts.specs.Refusals.{refusalNumber}
-use Rattle.layouts.specs.declared.Checked.the-variants.{Refused}
+use Rattle.layouts.specs.declared.Checked.the-variants.{Passed, Refused}
 use Rattle.marks.specs.Marks.{markOf}
-use Rattle.layouts.proofs.Refusals.{numbers-apart}
-use Rattle.rewrite.specs.Outcomes.{storesInAll, stepAnswer, requestAnswer, requestedNumber, Requests}
+use Rattle.layouts.proofs.Refusals.{told-passing, numbers-apart}
+use Rattle.rewrite.specs.Outcomes.{storesInAll, stepAnswer}
+use Rattle.request.specs.Outcomes.{requestAnswer, requestedNumber, Requests}
 use Rattle.rewrite.specs.Stores.{storeCount}
 use Rattle.rewrite.specs.declared.Plan.{Plan}
-use Rattle.rewrite.specs.declared.Requested.{Requested}
-use Rattle.rewrite.specs.declared.Requested.the-variants as request
+use Rattle.request.specs.declared.Requested.{Requested}
+use Rattle.request.specs.declared.Requested.the-variants as request
 use Rattle.rewrite.specs.declared.Stepped.{Stepped}
 use Rattle.rewrite.specs.declared.Stepped.the-variants as step
 use Rattle.station.specs.Outcomes.{planNumbers, numberedPlan, noted, moved, GivesRequest}
 use Rattle.verdicts.specs.Tests.{passed, refusal, by}
-use Rattle.verdicts.proofs.Tests.{by-passed, by-map}
+use Rattle.verdicts.proofs.Tests.{by-passed}
 use Rattle.promises.specs.Doors.{Called, unstepped, stepped, CallsAreARun, inAll, CutsSurvive, AcceptedThere, AcceptedAgainThere, StartsAgainThere}
 use Rattle.promises.specs.Rewriting.{inHand, Ran, begun, went, number}
-use Rattle.promises.proofs.Demands.{taken}
 use Rattle.promises.proofs.Doors.{none}
 use Rattle.promises.proofs.rewriting.Cutting.{length-cut}
 use Rattle.promises.proofs.rewriting.Demanded.{demand3}
@@ -124,9 +122,9 @@ pub accepted-there : AcceptedThere
 accepted-there layout cylinder side written marks before image small formatted sector mark contents number plan named fit gives =
     let v = refusal (formatTests layout cylinder side written marks (length before)) in
     let passes : v ≡ passed = by-passed 0 refusalNumber none numbers-apart v 0
-    (formatted .answers ∙ by-map formattedNumber v formats.Written formats.Refused) refl in
-    let wrote : Formats layout cylinder side written marks before formats.Written image =
-    record { answers = sym (taken v passes formats.Written formats.Refused); leaves = formatted .leaves } in
+    (formatted .answers) refl in
+    let wrote : Formats layout cylinder side written marks before Passed image =
+    record { answers = told-passing v passes; leaves = formatted .leaves } in
     let can = formatted-can-be-rewritten layout cylinder side written marks before image small wrote sector mark contents named fit in
     gives .numbered ∙ sym (ap requestedNumber (can .asked))
 

@@ -6,29 +6,28 @@ use Prim.Native.Nat.{ℕ, _*_, _≤_}
 use native.Mathlib.Omega.{arith}
 use lib.ListN.{length, replicate}
 use Rattle.cells.specs.Cells.{cell}
-use Rattle.format.specs.Outcomes.{formattedNumber}
-use Rattle.format.specs.declared.Formatted.the-variants as format
 use Rattle.layouts.specs.Layouts.{layoutOf}
 use Rattle.layouts.specs.Refusals.{refusalNumber}
 use Rattle.layouts.specs.Tracks.{trackOf}
 use Rattle.layouts.specs.declared.Checked.the-variants.{Passed, Refused}
 use Rattle.layouts.specs.declared.Refusal.{Refusal}
-use Rattle.layouts.specs.declared.Track.{Track}
-use Rattle.layouts.proofs.Refusals.{numbers-apart, number-known}
-use Rattle.read.specs.Answers.{Sector, answerNumber, carries, slotOf, refused as refusing, blockAnswer, blockBytes, identifierRecord, recordFor, sectorOf, areaOf}
+use Rattle.layouts.proofs.Refusals.{number-told, numbers-apart, number-known}
+use Rattle.read.specs.Records.{slotOf, refused as refusing, blockAnswer, blockBytes, identifierRecord, recordFor, sectorOf, areaOf}
+use Rattle.answers.specs.Answers.{answerNumber, carries}
 use Rattle.read.specs.Outcomes.{reading, refusedReading, readTests, readAnswer, readArea}
-use Rattle.read.specs.Picks.{recordAt, choice, pickTests, chosenOf, stretchIn}
-use Rattle.read.specs.declared.Answer.{Answer}
-use Rattle.read.specs.declared.Answer.the-variants as answers
-use Rattle.read.specs.declared.Choice.the-variants.{First, Second, Neither}
-use Rattle.read.specs.declared.Choice.the-variants as pick
-use Rattle.read.specs.declared.Fault.the-variants.{NoIdentifier}
+use Rattle.pick.specs.Picks.{recordAt, choice, pickTests, chosenOf, stretchIn}
+use Rattle.answers.specs.declared.Answer.{Answer}
+use Rattle.answers.specs.declared.Answer.the-variants as answers
+use Rattle.pick.specs.declared.Choice.the-variants.{First, Second, Neither}
+use Rattle.pick.specs.declared.Choice.the-variants as pick
+use Rattle.answers.specs.declared.Fault.the-variants.{NoIdentifier}
 use Rattle.read.specs.declared.Reading.{Reading}
-use Rattle.read.specs.declared.Record.{Record}
-use Rattle.read.proofs.Numbering.{answers-apart}
+use Rattle.answers.specs.declared.Record.{Record}
+use Rattle.answers.proofs.Numbering.{answers-apart}
 use Rattle.read.proofs.Passing.{modest}
-use Rattle.rewrite.specs.Outcomes.{requestedNumber, steppedNumber}
-use Rattle.rewrite.specs.declared.Requested.the-variants as request
+use Rattle.request.specs.Outcomes.{requestedNumber}
+use Rattle.rewrite.specs.Outcomes.{steppedNumber}
+use Rattle.request.specs.declared.Requested.the-variants as request
 use Rattle.rewrite.specs.declared.Stepped.the-variants as step
 use Rattle.verdicts.specs.Tests.{Test, Verdict, passed, refused, refusal, by}
 use Rattle.verdicts.proofs.Tests.{clash, exactly, by-passed, by-refused, by-map}
@@ -36,12 +35,11 @@ use Rattle.walk.specs.Events.{blocks, located}
 use Rattle.walk.specs.Outcomes.{met, locatedNumber}
 use Rattle.walk.specs.declared.Block.{Block}
 use Rattle.walk.specs.declared.Block.the-variants.{Missing, Beyond, Within}
-use Rattle.walk.specs.declared.Event.{Event}
 use Rattle.walk.specs.declared.Located.the-variants as locate
 use lib.Dec.{leb}
 use Rattle.promises.specs.Reading.{NothingOldShows, RefusedLeavesZeros, RefusedSlotsAreZero, RefusedSectorsLeaveZeros, OfOnePass, PartOfOnePass}
-use Rattle.promises.specs.Refusing.{NumbersApart, RefusedBy, checkedNumber, FormatRefuses, ReadRefuses, LocateRefuses, PickRefuses, RequestRefuses, StepRefuses}
-use Rattle.promises.specs.Sectors.{sectorIn}
+use Rattle.promises.specs.Refusing.{NumbersApart, RefusedBy, FormatRefuses, ReadRefuses, LocateRefuses, PickRefuses, RequestRefuses, StepRefuses}
+use Rattle.layouts.specs.Refusals.{checkedNumber}
 use Rattle.promises.proofs.formatting.Calls.{record-read, slot-read}
 
 pub numbers-are-apart : NumbersApart
@@ -140,7 +138,7 @@ by-tests tests number e = exactly 0 refusalNumber (λ f z. let k = number-known 
 
 pub format-refuses : FormatRefuses
 format-refuses layout cylinder side contents marks before answer after p =
-    by-tests _ (formattedNumber answer) (ap formattedNumber (p .answers) ∙ by-map formattedNumber _ format.Written format.Refused)
+    by-tests _ (checkedNumber answer) (ap checkedNumber (p .answers) ∙ number-told _)
 
 pub read-refuses : ReadRefuses
 unfolding readAnswer

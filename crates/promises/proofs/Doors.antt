@@ -10,29 +10,28 @@ use borrow.Author.Tests.{le-leb}
 use lib.Dec.{leb}
 use lib.ListN.{length, getD, take, drop, replicate}
 use lib.Seq.{getD-drop}
-use Rattle.format.specs.Outcomes.{formattedNumber}
 use Rattle.format.specs.Refusals.{formatTests}
-use Rattle.format.specs.declared.Formatted.the-variants.{Written}
-use Rattle.format.specs.declared.Formatted.the-variants as formats
 use Rattle.layouts.specs.Layouts.{layoutOf, mostSectors, numbers}
 use Rattle.layouts.specs.Refusals.{refusalNumber}
 use Rattle.layouts.specs.Tracks.{trackOf}
 use Rattle.layouts.specs.declared.Checked.the-variants.{Passed, Refused}
 use Rattle.layouts.specs.declared.Refusal.{Refusal}
-use Rattle.layouts.proofs.Refusals.{numbers-apart, number-known}
-use Rattle.read.specs.Answers.{answerNumber, carries, slots}
-use Rattle.read.specs.Outcomes.{unread, reading, refusedReading, readTests, readAnswer, readArea}
-use Rattle.read.specs.Picks.{areaTests, pickTests, choice, chosenOf}
-use Rattle.read.specs.declared.Answer.{Answer}
-use Rattle.read.specs.declared.Answer.the-variants as answers
-use Rattle.read.specs.declared.Choice.the-variants as pick
-use Rattle.read.specs.declared.Fault.the-variants.{NoIdentifier, Doubled, NoBlock, PastEnd, OpenMark, WrongEdc}
+use Rattle.layouts.proofs.Refusals.{told-passing, numbers-apart, number-known}
+use Rattle.answers.specs.Answers.{answerNumber, carries, unread}
+use Rattle.read.specs.Records.{slots}
+use Rattle.read.specs.Outcomes.{reading, refusedReading, readTests, readAnswer, readArea}
+use Rattle.pick.specs.Picks.{areaTests, pickTests, choice, chosenOf}
+use Rattle.answers.specs.declared.Answer.{Answer}
+use Rattle.answers.specs.declared.Answer.the-variants as answers
+use Rattle.pick.specs.declared.Choice.the-variants as pick
+use Rattle.answers.specs.declared.Fault.the-variants.{NoIdentifier, Doubled, NoBlock, PastEnd, OpenMark, WrongEdc}
 use Rattle.read.specs.declared.Reading.{Reading}
-use Rattle.read.specs.declared.Record.{Record}
+use Rattle.answers.specs.declared.Record.{Record}
 use Rattle.read.proofs.Passing.{modest}
 use Rattle.read.proofs.Sectors.{slots-at}
-use Rattle.rewrite.specs.Outcomes.{steppedNumber, requestedNumber}
-use Rattle.rewrite.specs.declared.Requested.the-variants as request
+use Rattle.rewrite.specs.Outcomes.{steppedNumber}
+use Rattle.request.specs.Outcomes.{requestedNumber}
+use Rattle.request.specs.declared.Requested.the-variants as request
 use Rattle.rewrite.specs.declared.Stepped.the-variants as step
 use Rattle.station.specs.Outcomes.{verdictNumber}
 use Rattle.station.specs.Picks.{pickNumber}
@@ -96,7 +95,7 @@ unfolding chosenOf
 doors-refuse =
     record {
       format = λ layout cylinder side contents marks before number after p.
-          by-tests _ number (p .answers ∙ by-map formattedNumber _ formats.Written formats.Refused);
+          by-tests _ number (p .answers);
       read = λ layout cylinder side image given number area answers counts p. by-tests _ number (p .numbered);
       request = λ layout cylinder side sector mark contents image number plan p.
           by-tests _ number (p .numbered ∙ by-map requestedNumber _ (request.Planned _) request.Refused);
@@ -188,11 +187,11 @@ gives-back-as-written layout cylinder side contents marks before image number ar
     let given = layoutOf layout .«area_bytes» in
     let v = refusal (formatTests layout cylinder side contents marks (length before)) in
     let written : v ≡ passed = by-passed 0 refusalNumber none numbers-apart v 0
-    (formatted .answers ∙ by-map formattedNumber v formats.Written formats.Refused) refl in
+    (formatted .answers) refl in
     let w = refusal (readTests layout cylinder side (length image) given) in
     let hands = readAnswer layout cylinder side image given in
     let back = format-then-read layout cylinder side contents marks before image hands area small
-    (record { answers = sym (taken v written formats.Written formats.Refused); leaves = formatted .leaves })
+    (record { answers = told-passing v written; leaves = formatted .leaves })
     (record { answers = refl; leaves = read .leaves }) in
     let accepted : w ≡ passed = by-passed Passed Refused (λ f e. clash cc) (λ g f e. cc) w (hands .verdict)
     (by-map (λ (r : Reading). r .verdict) w (reading t image) refusedReading) (back .accepted) in

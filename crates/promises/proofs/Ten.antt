@@ -14,23 +14,23 @@ use Rattle.layouts.specs.declared.Refusal.{Refusal}
 use Rattle.layouts.specs.declared.Track.{Track}
 use Rattle.marks.specs.Marks.{stands}
 use Rattle.marks.specs.declared.Mark.the-variants as marks
-use Rattle.read.specs.Answers.{answerNumber, proved, blockAnswer, identifierRecord, recordFor, sectorOf}
-use Rattle.read.specs.declared.Answer.the-variants as answers
-use Rattle.read.specs.declared.Fault.the-variants.{OpenMark, WrongEdc}
-use Rattle.rewrite.specs.Outcomes.{requestedNumber, firstPlan}
-use Rattle.rewrite.specs.Refusals.{isWithin, cellOf, boundaryTest, callTests, placeTests, requestTests}
-use Rattle.rewrite.specs.declared.Requested.the-variants as request
+use Rattle.answers.specs.Answers.{answerNumber}
+use Rattle.read.specs.Records.{proved, blockAnswer, identifierRecord, recordFor, sectorOf}
+use Rattle.answers.specs.declared.Answer.the-variants as answers
+use Rattle.answers.specs.declared.Fault.the-variants.{OpenMark, WrongEdc}
+use Rattle.request.specs.Outcomes.{requestedNumber, firstPlan}
+use Rattle.request.specs.Refusals.{isWithin, boundaryTest, callTests, placeTests, requestTests}
+use Rattle.request.specs.declared.Requested.the-variants as request
 use Rattle.verdicts.specs.Tests.{Verdict, passed, refused, refusal, by}
 use Rattle.verdicts.proofs.Tests.{clash, append-passed, passed-both, first-passed}
 use Rattle.walk.specs.Events.{blocks, located}
-use Rattle.walk.specs.Outcomes.{met, found, locateTests}
+use Rattle.walk.specs.Outcomes.{met, locateTests}
 use Rattle.walk.specs.Walk.{edcRight}
 use Rattle.walk.specs.declared.Block.{Block}
 use Rattle.walk.specs.declared.Block.the-variants.{Missing, Beyond, Within}
 use Rattle.walk.specs.declared.Located.{Located}
-use Rattle.walk.proofs.Passing.{sector-known}
+use Rattle.layouts.proofs.Refusals.{sector-known}
 use Rattle.promises.specs.Refusing.{Unreadable, TenAsRead}
-use Rattle.promises.specs.Sectors.{sectorIn}
 
 -- ---- what reading answers
 

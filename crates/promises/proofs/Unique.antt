@@ -5,9 +5,9 @@ use Prim.Native.Nat.{ℕ}
 use Rattle.cells.specs.Outcomes.{IsOctet, IsDataByte, AreDataBytes, AreZeros, IsCoded}
 use Rattle.cells.specs.declared.Mode.{Mode}
 use Rattle.edc.specs.Outcomes.{IsByteEntered, IsBytesEntered, IsEdc}
-use Rattle.format.specs.Outcomes.{Formats, IsFormattedNumber}
-use Rattle.format.specs.declared.Formatted.{Formatted}
-use Rattle.layouts.specs.Outcomes.{IsLayout, IsLayoutOf, IsTrack, IsGapByte, IsRefusalNumber}
+use Rattle.format.specs.Outcomes.{Formats}
+use Rattle.layouts.specs.declared.Checked.{Checked}
+use Rattle.layouts.specs.Outcomes.{IsCheckedNumber, IsLayout, IsLayoutOf, IsTrack, IsGapByte, IsRefusalNumber}
 use Rattle.layouts.specs.Outcomes.{IsLayoutNumber, IsTrackNumbers, IsTrackAndImage, IsImageLength, IsAreaLength, IsMarkByte}
 use Rattle.layouts.specs.Outcomes.{IsControlRecord, IsSectorNumber}
 use Rattle.layouts.specs.declared.Layout.{Layout}
@@ -15,17 +15,19 @@ use Rattle.layouts.specs.declared.Refusal.{Refusal}
 use Rattle.marks.specs.Outcomes.{IsString, AreMarkBytes, IsLastByte, IsLastBit, TellsStanding, IsRegisterAfter, IsMarkOf}
 use Rattle.marks.specs.declared.Mark.{Mark}
 use Rattle.search.specs.declared.Kinds.{Kinds}
-use Rattle.read.specs.Outcomes.{IsFaultNumber, IsAnswerNumber, IsAnswerOf, Reads}
+use Rattle.answers.specs.Outcomes.{AreUnread, IsFaultNumber, IsAnswerNumber, IsAnswerOf, TellsCarrying}
+use Rattle.read.specs.Outcomes.{Reads}
 use Rattle.search.specs.Outcomes.{TellsBlock, IsMarkAt, IsFirstMark}
 use Rattle.walk.specs.Outcomes.{IsRound, Locates}
 use Rattle.layouts.specs.declared.Track.{Track}
-use Rattle.read.specs.Picks.{IsChosen, IsPicked, IsStretch}
-use Rattle.read.specs.declared.Record.{Record}
-use Rattle.read.specs.declared.Fault.{Fault}
-use Rattle.read.specs.declared.Answer.{Answer}
-use Rattle.read.specs.declared.Records.{Records}
+use Rattle.pick.specs.Picks.{IsChosen, IsPicked, IsStretch}
+use Rattle.answers.specs.declared.Record.{Record}
+use Rattle.answers.specs.declared.Fault.{Fault}
+use Rattle.answers.specs.declared.Answer.{Answer}
+use Rattle.answers.specs.declared.Records.{Records}
 use Rattle.read.specs.declared.Reading.{Reading}
-use Rattle.rewrite.specs.Outcomes.{CountsStores, Steps, Requests}
+use Rattle.rewrite.specs.Outcomes.{CountsStores, Steps}
+use Rattle.request.specs.Outcomes.{Requests}
 use Rattle.rewrite.specs.declared.Plan.{Plan}
 use Rattle.rewrite.specs.declared.Stepped.{Stepped}
 use Rattle.station.specs.Outcomes.{GivesEdc, GivesCoded, GivesDataByte, GivesFormat, GivesRead, GivesPick, GivesRequest, GivesStep}
@@ -110,6 +112,9 @@ gap-byte mode = by-value _
 pub refusal-number : (refusal : Refusal) → Unique (IsRefusalNumber refusal)
 refusal-number refusal = by-value _
 
+pub checked-number : (answer : Checked) → Unique (IsCheckedNumber answer)
+checked-number answer = by-value _
+
 pub layout-of : (layout : ℕ) → Unique (IsLayoutOf layout)
 layout-of layout = by-value _
 
@@ -147,11 +152,8 @@ by-values : {A B : Type 0} (v : A) (w : B) → Unique (λ (o : A × B). (o .0 �
 by-values v w x y p q = ap₂ (λ a b. (a, b)) (p .0 ∙ sym (q .0)) (p .1 ∙ sym (q .1))
 
 pub format : (layout cylinder side : ℕ) (contents marks before : List ℕ)
-    → Unique (λ (o : Formatted × List ℕ). Formats layout cylinder side contents marks before (o .0) (o .1))
+    → Unique (λ (o : Checked × List ℕ). Formats layout cylinder side contents marks before (o .0) (o .1))
 format layout cylinder side contents marks before x y p q = by-values _ _ x y (p .answers, p .leaves) (q .answers, q .leaves)
-
-pub formatted-number : (answer : Formatted) → Unique (IsFormattedNumber answer)
-formatted-number answer = by-value _
 
 -- ---- walk
 
@@ -161,7 +163,10 @@ next-round t image place = by-value _
 pub locate : (layout cylinder side sector : ℕ) (image : List ℕ) → Unique (Locates layout cylinder side sector image)
 locate layout cylinder side sector image = by-value _
 
--- ---- read
+-- ---- answers
+
+pub unread-records : Unique AreUnread
+unread-records = by-value _
 
 pub fault-number : (fault : Fault) → Unique (IsFaultNumber fault)
 fault-number fault = by-value _
@@ -172,9 +177,16 @@ answer-number answer = by-value _
 pub answer-of : (number : ℕ) → Unique (IsAnswerOf number)
 answer-of number = by-value _
 
+pub carries-bytes : (answer : Answer) → Unique (TellsCarrying answer)
+carries-bytes answer = by-value _
+
+-- ---- read
+
 pub read : (layout cylinder side : ℕ) (image : List ℕ) (given : ℕ)
     → Unique (λ (o : Reading × List ℕ). Reads layout cylinder side image given (o .0) (o .1))
 read layout cylinder side image given x y p q = by-values _ _ x y (p .answers, p .leaves) (q .answers, q .leaves)
+
+-- ---- pick
 
 pub choose : (layout sector first second : ℕ) (one two : Record) → Unique (IsChosen layout sector first second one two)
 choose layout sector first second one two = by-value _
@@ -190,12 +202,14 @@ pick layout sector first one second two = by-value _
 pub stores-in-all : (plan : Plan) (bytes : ℕ) → Unique (CountsStores plan bytes)
 stores-in-all plan bytes = by-value _
 
-pub request : (layout cylinder side sector mark : ℕ) (contents image : List ℕ) → Unique (Requests layout cylinder side sector mark contents image)
-request layout cylinder side sector mark contents image = by-value _
-
 pub step : (plan : Plan) (mark : ℕ) (contents before : List ℕ)
     → Unique (λ (o : Stepped × List ℕ). Steps plan mark contents before (o .0) (o .1))
 step plan mark contents before x y p q = by-values _ _ x y (p .answers, p .leaves) (q .answers, q .leaves)
+
+-- ---- request
+
+pub request : (layout cylinder side sector mark : ℕ) (contents image : List ℕ) → Unique (Requests layout cylinder side sector mark contents image)
+request layout cylinder side sector mark contents image = by-value _
 
 -- ---- station
 

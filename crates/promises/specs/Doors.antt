@@ -14,8 +14,9 @@ use Rattle.layouts.specs.Tracks.{trackOf}
 use Rattle.layouts.specs.declared.Refusal.{Refusal}
 use Rattle.layouts.specs.declared.Track.{Track}
 use Rattle.read.specs.Outcomes.{readTests}
-use Rattle.read.specs.Picks.{pickTests}
-use Rattle.rewrite.specs.Refusals.{requestTests, stepTests}
+use Rattle.pick.specs.Picks.{pickTests}
+use Rattle.request.specs.Refusals.{requestTests}
+use Rattle.rewrite.specs.Refusals.{stepTests}
 use Rattle.station.specs.Outcomes.{GivesFormat, GivesRead, GivesPick, GivesRequest, GivesStep, numberedPlan}
 use Rattle.station.specs.Records.{recordWidth}
 use Rattle.verdicts.specs.Tests.{Test, FirstOf}

@@ -10,15 +10,15 @@ use Rattle.layouts.specs.declared.Checked.the-variants.{Passed, Refused}
 use Rattle.layouts.specs.declared.Refusal.{Refusal}
 use Rattle.layouts.specs.declared.Track.{Track}
 use Rattle.format.specs.Order.{Numbered}
-use Rattle.read.specs.Answers.{answerNumber, carries}
+use Rattle.answers.specs.Answers.{answerNumber, carries}
 use Rattle.read.specs.Outcomes.{Reads}
-use Rattle.read.specs.Picks.{IsPicked, IsStretch, recordAt}
+use Rattle.pick.specs.Picks.{IsPicked, IsStretch, recordAt}
 use Rattle.read.specs.declared.Reading.{Reading}
-use Rattle.read.specs.declared.Record.{Record}
-use Rattle.read.specs.declared.Records.{Records}
-use Rattle.read.specs.declared.Choice.{Choice}
-use Rattle.read.specs.declared.Choice.the-variants.{First, Second, Neither}
-use Rattle.read.specs.declared.Choice.the-variants as pick
+use Rattle.answers.specs.declared.Record.{Record}
+use Rattle.answers.specs.declared.Records.{Records}
+use Rattle.pick.specs.declared.Choice.{Choice}
+use Rattle.pick.specs.declared.Choice.the-variants.{First, Second, Neither}
+use Rattle.pick.specs.declared.Choice.the-variants as pick
 use Rattle.promises.specs.Sectors.{sectorIn}
 
 -- Nothing old shows: two reads of one image into areas of one length have the same answer and leave the same, whatever the areas held before.

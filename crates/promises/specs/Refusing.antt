@@ -3,25 +3,26 @@ use mathlib.Core.List.{List}
 use mathlib.Core.Path.{_≡_}
 use Prim.Native.Nat.{ℕ, _≤_}
 use lib.ListN.{length}
-use Rattle.format.specs.Outcomes.{Formats, formattedNumber}
+use Rattle.format.specs.Outcomes.{Formats}
 use Rattle.format.specs.Refusals.{formatTests}
-use Rattle.format.specs.declared.Formatted.{Formatted}
-use Rattle.layouts.specs.Refusals.{refusalNumber}
+use Rattle.layouts.specs.Refusals.{checkedNumber, refusalNumber}
 use Rattle.layouts.specs.Tracks.{trackOf}
 use Rattle.layouts.specs.declared.Checked.{Checked}
-use Rattle.layouts.specs.declared.Checked.the-variants as checked
 use Rattle.layouts.specs.declared.Refusal.{Refusal}
-use Rattle.read.specs.Answers.{Sector, answerNumber}
+use Rattle.read.specs.Records.{Sector}
+use Rattle.answers.specs.Answers.{answerNumber}
 use Rattle.read.specs.Outcomes.{Reads, readTests}
-use Rattle.read.specs.Picks.{IsPicked, pickTests}
+use Rattle.pick.specs.Picks.{IsPicked, pickTests}
 use Rattle.read.specs.declared.Reading.{Reading}
-use Rattle.read.specs.declared.Records.{Records}
-use Rattle.read.specs.declared.Choice.{Choice}
-use Rattle.read.specs.declared.Choice.the-variants as pick
-use Rattle.rewrite.specs.Outcomes.{Requests, Steps, requestedNumber, steppedNumber}
-use Rattle.rewrite.specs.Refusals.{callTests, requestTests, stepTests}
+use Rattle.answers.specs.declared.Records.{Records}
+use Rattle.pick.specs.declared.Choice.{Choice}
+use Rattle.pick.specs.declared.Choice.the-variants as pick
+use Rattle.request.specs.Outcomes.{Requests, requestedNumber}
+use Rattle.rewrite.specs.Outcomes.{Steps, steppedNumber}
+use Rattle.request.specs.Refusals.{callTests, requestTests}
+use Rattle.rewrite.specs.Refusals.{stepTests}
 use Rattle.rewrite.specs.declared.Plan.{Plan}
-use Rattle.rewrite.specs.declared.Requested.{Requested}
+use Rattle.request.specs.declared.Requested.{Requested}
 use Rattle.rewrite.specs.declared.Stepped.{Stepped}
 use Rattle.verdicts.specs.Tests.{Test, passed, refusal, ExactlyBy}
 use Rattle.walk.specs.Outcomes.{Locates, locateTests, locatedNumber}
@@ -47,14 +48,9 @@ RefusedBy tests number = ExactlyBy tests (λ f. number ≡ refusalNumber f)
 -- The lists are the papers', in their order (01, "Refused calls"): 2, 3, 4, 1, 5, 6, 7, 8 of format;
 abbrev pub FormatRefuses : Type 0
 FormatRefuses =
-    (layout cylinder side : ℕ) (contents marks before : List ℕ) (answer : Formatted) (after : List ℕ)
+    (layout cylinder side : ℕ) (contents marks before : List ℕ) (answer : Checked) (after : List ℕ)
     → Formats layout cylinder side contents marks before answer after
-    → RefusedBy (formatTests layout cylinder side contents marks (length before)) (formattedNumber answer)
-
--- The number of a reading's verdict: 0, or the refusal's.
-abbrev pub checkedNumber : Checked → ℕ
-checkedNumber checked.Passed = 0
-checkedNumber (checked.Refused f) = refusalNumber f
+    → RefusedBy (formatTests layout cylinder side contents marks (length before)) (checkedNumber answer)
 
 -- 2, 3, 4, 1, 5 of read;
 abbrev pub ReadRefuses : Type 0

@@ -8,23 +8,24 @@ use lib.Seq.{sets}
 use Rattle.cells.specs.Cells.{Bytes}
 use Rattle.format.specs.Order.{Numbered}
 use Rattle.format.specs.Outcomes.{Formats}
-use Rattle.format.specs.declared.Formatted.the-variants.{Written}
+use Rattle.layouts.specs.declared.Checked.the-variants.{Passed}
 use Rattle.layouts.specs.Layouts.{layoutOf}
 use Rattle.layouts.specs.Tracks.{trackOf}
 use Rattle.marks.specs.Marks.{markOf}
 use Rattle.read.specs.Outcomes.{Reads}
 use Rattle.read.specs.declared.Reading.{Reading}
-use Rattle.read.specs.declared.Record.{Record}
-use Rattle.rewrite.specs.Refusals.{contentsTests}
+use Rattle.answers.specs.declared.Record.{Record}
+use Rattle.request.specs.Refusals.{contentsTests}
 use Rattle.rewrite.specs.Stores.{noStore, stores, storeCount}
-use Rattle.rewrite.specs.Outcomes.{Steps, Requests, steppedNumber}
+use Rattle.rewrite.specs.Outcomes.{Steps, steppedNumber}
+use Rattle.request.specs.Outcomes.{Requests}
 use Rattle.verdicts.specs.Tests.{passed, refusal}
 use Rattle.walk.specs.Events.{bads, foreigns}
 use Rattle.walk.specs.Outcomes.{met}
 use Rattle.promises.specs.Cuts.{cut}
 use Rattle.promises.specs.Sectors.{sectorIn, underWay, readsBack, ReadsSo}
 use Rattle.rewrite.specs.declared.Plan.{Plan}
-use Rattle.rewrite.specs.declared.Requested.the-variants as request
+use Rattle.request.specs.declared.Requested.the-variants as request
 use Rattle.rewrite.specs.declared.Stepped.{Stepped}
 use Rattle.rewrite.specs.declared.Stepped.the-variants as step
 use Rattle.rewrite.specs.declared.Store.{Store}
@@ -158,7 +159,7 @@ abbrev pub FormattedCanBeRewritten : Type 0
 FormattedCanBeRewritten =
     (layout cylinder side : ℕ) (written marks before image : List ℕ)
     → Bytes written
-    → Formats layout cylinder side written marks before Written image
+    → Formats layout cylinder side written marks before Passed image
     → (sector mark : ℕ) (contents : List ℕ) → Numbered (layoutOf layout) sector → Fit layout cylinder mark contents
     → Accepted layout cylinder side sector mark contents image
 

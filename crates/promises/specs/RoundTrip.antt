@@ -3,22 +3,21 @@
 use mathlib.Core.Bool.{cond}
 use mathlib.Core.List.{List, [], _∷_}
 use mathlib.Core.Path.{_≡_}
-use Prim.Native.Nat.{ℕ, suc, _+_, _-_, _*_, _<_, _≤_}
+use Prim.Native.Nat.{ℕ, suc, _+_, _-_, _*_, _≤_}
 use lib.Dec.{eqb}
 use lib.ListN.{getD, length}
 use Rattle.cells.specs.Cells.{Byte, Bytes}
 use Rattle.format.specs.Order.{Numbered}
 use Rattle.format.specs.Outcomes.{Formats}
 use Rattle.format.specs.Places.{blockPlace}
-use Rattle.format.specs.declared.Formatted.the-variants.{Written}
 use Rattle.layouts.specs.Layouts.{Every, layoutOf, slotIn}
 use Rattle.layouts.specs.Tracks.{trackOf}
 use Rattle.layouts.specs.declared.Checked.the-variants.{Passed}
 use Rattle.layouts.specs.declared.Layout.{Layout}
 use Rattle.layouts.specs.declared.Track.{Track}
-use Rattle.read.specs.Answers.{answerNumber}
+use Rattle.answers.specs.Answers.{answerNumber}
 use Rattle.read.specs.Outcomes.{Reads}
-use Rattle.read.specs.Picks.{recordAt}
+use Rattle.pick.specs.Picks.{recordAt}
 use Rattle.read.specs.declared.Reading.{Reading}
 use Rattle.walk.specs.Events.{bads, foreigns}
 use Rattle.walk.specs.Outcomes.{met}
@@ -87,6 +86,6 @@ abbrev pub ReadsBackAsWritten : Type 0
 ReadsBackAsWritten =
     (layout cylinder side : ℕ) (contents marks before image : List ℕ) (answer : Reading) (area : List ℕ)
     → Bytes contents
-    → Formats layout cylinder side contents marks before Written image
+    → Formats layout cylinder side contents marks before Passed image
     → Reads layout cylinder side image (layoutOf layout .«area_bytes») answer area
     → HandsBack (trackOf layout cylinder side) contents marks answer area

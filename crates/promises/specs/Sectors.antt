@@ -10,7 +10,8 @@ use Rattle.cells.specs.Cells.{cell}
 use Rattle.layouts.specs.declared.Track.{Track}
 use Rattle.marks.specs.Marks.{markByte}
 use Rattle.marks.specs.declared.Mark.the-variants.{Control}
-use Rattle.read.specs.Answers.{Sector, answerNumber, sectorOf}
+use Rattle.read.specs.Records.{Sector, sectorOf}
+use Rattle.answers.specs.Answers.{answerNumber}
 use Rattle.walk.specs.Outcomes.{met}
 
 -- How sector x of an image of this track reads.

@@ -12,13 +12,13 @@ use Rattle.marks.specs.declared.Mark.the-variants as marks
 use Rattle.walk.specs.Walk.{edcRight}
 use Rattle.walk.specs.declared.Block.{Block}
 use Rattle.walk.specs.declared.Block.the-variants.{Missing, Beyond, Within}
-use Rattle.read.specs.Answers.{Sector, slotOf, answering, refused, proved, blockAnswer, blockBytes, identifierRecord}
+use Rattle.read.specs.Records.{Sector, slotOf, answering, refused, proved, blockAnswer, blockBytes, identifierRecord}
 use Rattle.read.specs.Turns.{Gives, unmet, next}
-use Rattle.read.specs.declared.Fault.{Fault}
-use Rattle.read.specs.declared.Fault.the-variants.{Doubled, NoBlock, PastEnd, OpenMark, WrongEdc}
-use Rattle.read.specs.declared.Answer.{Answer}
-use Rattle.read.specs.declared.Answer.the-variants.{Data, Control, Refused}
-use Rattle.read.specs.declared.Record.{Record}
+use Rattle.answers.specs.declared.Fault.{Fault}
+use Rattle.answers.specs.declared.Fault.the-variants.{Doubled, NoBlock, PastEnd, OpenMark, WrongEdc}
+use Rattle.answers.specs.declared.Answer.{Answer}
+use Rattle.answers.specs.declared.Answer.the-variants.{Data, Control, Refused}
+use Rattle.answers.specs.declared.Record.{Record}
 
 -- What gives a sector gives whatever is the same.
 pub gives-same : {x y : Sector} {r : Record} {slot : List ℕ} → y ≡ x → Gives x r slot → Gives y r slot

@@ -1,5 +1,3 @@
--- the papers' numbers of the answers
-pub mod Numbering
 -- lists by sector number: records, slots, the area
 pub mod Sectors
 -- what one block more makes of its sector; every slot's length
@@ -12,5 +10,3 @@ pub mod Filling
 pub mod Answering
 -- what is known of a read that its tests pass
 pub mod Passing
--- what is known of a pick that its tests pass
-pub mod Picking

@@ -1,5 +1,5 @@
 -- What one block more makes of its sector, and that every slot has the layout's size.
-use mathlib.Core.Path.{_≡_, refl, ap, _∙_}
+use mathlib.Core.Path.{_≡_, refl, ap}
 use mathlib.Core.Bool.{Bool, true, false, cond}
 use mathlib.Core.List.{List, [], _∷_, _++_}
 use Prim.Native.Nat.{ℕ, _+_, _-_, _≤_}
@@ -17,12 +17,12 @@ use Rattle.walk.specs.Events.{blocks}
 use Rattle.walk.specs.declared.Block.{Block}
 use Rattle.walk.specs.declared.Block.the-variants.{Missing, Beyond, Within}
 use Rattle.walk.specs.declared.Event.{Event}
-use Rattle.read.specs.Answers.{Sector, slotOf, refused, proved, blockAnswer, blockBytes, identifierRecord, recordFor, sectorOf}
+use Rattle.read.specs.Records.{slotOf, refused, proved, blockAnswer, blockBytes, identifierRecord, recordFor, sectorOf}
 use Rattle.read.specs.Turns.{unmet, next}
-use Rattle.read.specs.declared.Fault.the-variants.{NoIdentifier, Doubled, OpenMark, WrongEdc}
-use Rattle.read.specs.declared.Answer.{Answer}
-use Rattle.read.specs.declared.Answer.the-variants.{Data, Control, Refused}
-use Rattle.read.specs.declared.Record.{Record}
+use Rattle.answers.specs.declared.Fault.the-variants.{NoIdentifier, Doubled, OpenMark, WrongEdc}
+use Rattle.answers.specs.declared.Answer.{Answer}
+use Rattle.answers.specs.declared.Answer.the-variants.{Data, Control, Refused}
+use Rattle.answers.specs.declared.Record.{Record}
 
 module _ (t : Track) (c : ℕ → ℕ) (n : ℕ) where
   -- ---- one block more

@@ -3,12 +3,12 @@ use mathlib.Core.Path.{_≡_, refl, sym, ap, ap₂, _∙_}
 use mathlib.Core.List.{List, [], _∷_, _++_, map}
 use mathlib.Core.Logic.{⊎-elim}
 use Prim.Native.Nat.{ℕ, zero, suc, _+_, _-_, _*_, _≤_, _<_}
-use native.Mathlib.Nat.{suc-mul, add-mul, add-comm, eq-or-lt-of-le}
+use native.Mathlib.Nat.{suc-mul, add-comm, eq-or-lt-of-le}
 use native.Mathlib.Omega.{arith}
 use lib.ListN.{length, getD, set, take, drop, replicate, length-append, replicate-append-replicate}
 use lib.Seq.{sets, sets-eq, take-at, drop-drop}
 use Rattle.layouts.specs.Layouts.{numbers}
-use Rattle.read.specs.Answers.{slots}
+use Rattle.read.specs.Records.{slots}
 
 -- ---- one thing for each number
 
@@ -118,14 +118,6 @@ module _ (size : ℕ) where
           let y : (s - a) * size ≡ length (f a) + (s - suc a) * size =
           ap (λ (i : ℕ). i * size) z ∙ suc-mul (s - suc a) size ∙ add-comm ((s - suc a) * size) size ∙ ap (λ (i : ℕ). i + (s - suc a) * size) (sym (lf a)) in
           rw y (ap₂ _++_ (same a (λ q. omega arith)) e ∙ sym (sets-behind (f a) (slots f (numbers k (suc a))) (g s) ((s - suc a) * size)))
-
-  -- A sector's slot lies within the area.
-  pub slot-room : (k s : ℕ) → 1 ≤ s → s ≤ k → (s - 1) * size + size ≤ k * size
-  slot-room k s low high =
-      let e : k ≡ suc (s - 1) + (k - s) = omega arith in
-      let f : k * size ≡ (s - 1) * size + size + (k - s) * size =
-      ap (λ (i : ℕ). i * size) e ∙ add-mul (suc (s - 1)) (k - s) size ∙ ap (λ (i : ℕ). i + (k - s) * size) (suc-mul (s - 1) size) in
-      omega (arith, f)
 
   -- A sector's slot in the area is its own.
   pub slots-at : (f : ℕ → List ℕ) → ((x : ℕ) → length (f x) ≡ size) → (k a s : ℕ) → a ≤ s → s < a + k

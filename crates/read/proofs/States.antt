@@ -15,11 +15,11 @@ use Rattle.walk.specs.declared.Block.{Block}
 use Rattle.walk.specs.declared.Event.{Event}
 use Rattle.walk.specs.declared.Event.the-variants.{Bad, Foreign, Accepted}
 use Rattle.walk.proofs.Events.{bads-append, foreigns-append, blocks-own, blocks-other, blocks-bad, blocks-foreign}
-use Rattle.read.specs.Answers.{Sector, refused, recordFor, sectorOf, recordsOf, areaOf}
+use Rattle.read.specs.Records.{Sector, refused, recordFor, sectorOf, recordsOf, areaOf}
 use Rattle.read.specs.Turns.{next}
-use Rattle.read.specs.Outcomes.{unread}
-use Rattle.read.specs.declared.Fault.the-variants.{NoIdentifier}
-use Rattle.read.specs.declared.Record.{Record}
+use Rattle.answers.specs.Answers.{unread}
+use Rattle.answers.specs.declared.Fault.the-variants.{NoIdentifier}
+use Rattle.answers.specs.declared.Record.{Record}
 use Rattle.read.proofs.Recording.{record-next, length-sector}
 use Rattle.read.proofs.Sectors.{map-same, map-all, map-at, map-set, slots-same, slots-zero, slots-set}
 

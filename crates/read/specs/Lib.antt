@@ -1,4 +1,3 @@
-pub mod Answers
+pub mod Records
 pub mod Turns
 pub mod Outcomes
-pub mod Picks

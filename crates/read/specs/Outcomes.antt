@@ -1,10 +1,11 @@
--- What each public function of this crate promises; the pick's stand in Picks.
+-- What `read` promises.
 use mathlib.Core.List.{List, [], _∷_, _++_}
 use mathlib.Core.Path.{_≡_}
 use Prim.Native.Nat.{ℕ, _*_}
 use lib.ListN.{length, replicate}
+use Rattle.answers.specs.Answers.{unreadRecords}
 use Rattle.cells.specs.Cells.{cell}
-use Rattle.layouts.specs.Layouts.{layoutOf, mostSectors}
+use Rattle.layouts.specs.Layouts.{layoutOf}
 use Rattle.layouts.specs.Refusals.{areaTest, readingTests}
 use Rattle.layouts.specs.Tracks.{trackOf}
 use Rattle.layouts.specs.declared.Checked.the-variants as checked
@@ -13,27 +14,8 @@ use Rattle.layouts.specs.declared.Track.{Track}
 use Rattle.verdicts.specs.Tests.{Test, refusal, by}
 use Rattle.walk.specs.Events.{bads, foreigns}
 use Rattle.walk.specs.Outcomes.{met}
-use Rattle.read.specs.Answers.{faultNumber, answerNumber, answerOf, recordsOf, areaOf}
-use Rattle.read.specs.declared.Fault.{Fault}
-use Rattle.read.specs.declared.Fault.the-variants.{NoIdentifier}
-use Rattle.read.specs.declared.Answer.{Answer}
-use Rattle.read.specs.declared.Answer.the-variants.{Refused}
-use Rattle.read.specs.declared.Record.{Record}
+use Rattle.read.specs.Records.{recordsOf, areaOf}
 use Rattle.read.specs.declared.Reading.{Reading}
-
--- `fault_number` and `answer_number` answer the papers' numbers, and `answer_of` the answer of a number.
-abbrev pub IsFaultNumber : Fault → ℕ → Type 0
-IsFaultNumber fault number = number ≡ faultNumber fault
-
-abbrev pub IsAnswerNumber : Answer → ℕ → Type 0
-IsAnswerNumber answer number = number ≡ answerNumber answer
-
-abbrev pub IsAnswerOf : ℕ → Answer → Type 0
-IsAnswerOf number answer = answer ≡ answerOf number
-
--- The record of a sector of which nothing is known; also what the logic reads past an array's end, where no index reaches.
-abbrev pub unread : Record
-unread = record { answer = Refused NoIdentifier }
 
 -- The refusals of read, in the papers' order: 2, 3, 4, 1, 5 (01, "Refused calls").
 unfoldable pub readTests : (layout cylinder side image area : ℕ) → List (Test Refusal)
@@ -53,7 +35,7 @@ reading t image =
 -- What a refused read hands back: its number alone, without records or counts.
 abbrev pub refusedReading : Refusal → Reading
 refusedReading f =
-    record { verdict = checked.Refused f; sectors = 0; records = record { list = replicate mostSectors unread }; bad = 0; foreign = 0 }
+    record { verdict = checked.Refused f; sectors = 0; records = unreadRecords; bad = 0; foreign = 0 }
 
 module _ (layout cylinder side : ℕ) (image : List ℕ) (given : ℕ) where
   -- What `read` answers.

@@ -15,11 +15,11 @@ use Rattle.layouts.specs.declared.Track.{Track}
 use Rattle.marks.specs.Marks.{covered}
 use Rattle.marks.specs.declared.Mark.{Mark}
 use Rattle.walk.specs.Walk.{edcRight}
-use Rattle.read.specs.Answers.{Sector, answering, refused, blockAnswer, blockBytes, identifierRecord}
-use Rattle.read.specs.declared.Fault.the-variants.{NoIdentifier, Doubled, NoBlock, PastEnd, OpenMark, WrongEdc}
-use Rattle.read.specs.declared.Answer.{Answer}
-use Rattle.read.specs.declared.Answer.the-variants.{Data, Control, Refused}
-use Rattle.read.specs.declared.Record.{Record}
+use Rattle.read.specs.Records.{Sector, answering, refused, blockAnswer, blockBytes, identifierRecord}
+use Rattle.answers.specs.declared.Fault.the-variants.{NoIdentifier, Doubled, NoBlock, PastEnd, OpenMark, WrongEdc}
+use Rattle.answers.specs.declared.Answer.{Answer}
+use Rattle.answers.specs.declared.Answer.the-variants.{Data, Control, Refused}
+use Rattle.answers.specs.declared.Record.{Record}
 use Rattle.walk.specs.declared.Block.{Block}
 
 -- The layout's numbers are small enough for sums of cells. Those of every layout are.

@@ -1,8 +1,8 @@
 // A sector's block: its bytes go into the slot as they are decoded, and into the register with them. Each function here is lent the sector's
 // slot, and answers the record that goes with what it leaves there.
-use super::Answer;
-use super::Fault;
-use super::Record;
+use answers::Answer;
+use answers::Fault;
+use answers::Record;
 use cells::Mode;
 use layouts::Track;
 use marks::Mark;
@@ -13,9 +13,9 @@ ghost use lib.ListN.{length, replicate};
 ghost use Rattle.cells.specs.Cells.{cell};
 ghost use Rattle.marks.specs.Outcomes.{Housed};
 ghost use Rattle.walk.specs.Turns.{Placed};
-ghost use Rattle.read.specs.Answers.{identifierRecord};
+ghost use Rattle.read.specs.Records.{identifierRecord};
 ghost use Rattle.read.specs.Turns.{Modest, Gives, Decodes, Checks, blockSector, unmet, next};
-ghost use Rattle.read.specs.declared.Answer.the-variants.{Refused};
+ghost use Rattle.answers.specs.declared.Answer.the-variants.{Refused};
 
 // What decoding a block says besides its bytes: the register once the mark, the bytes and the two behind them have entered it.
 struct Decoded {

@@ -1,11 +1,9 @@
-// The refusals of read and of the pick, in the papers' order: the first test that applies.
+// The refusals of read, in the papers' order: the first test that applies.
 use layouts::Checked;
-use layouts::Layout;
 ghost use mathlib.Core.Path.{_≡_};
 ghost use Rattle.layouts.specs.Refusals.{told};
 ghost use Rattle.verdicts.specs.Tests.{refusal};
 ghost use Rattle.read.specs.Outcomes.{readTests};
-ghost use Rattle.read.specs.Picks.{areaTests, pickTests};
 
 // 2, 3, 4, 1, 5: the track, the image's length and the area's.
 pub(crate) fn read_tested(
@@ -23,30 +21,4 @@ pub(crate) fn read_tested(
     };
     let taken = layouts::layout_of(layout);
     layouts::area_length(taken.area_bytes, area)
-}
-
-// 9, and 5 of each area.
-fn area_tests(layout: Layout, sector: u32, first: usize, second: usize) -> Checked
-    ensures { λ r. ⌜ r ≡ told (refusal (areaTests layout sector first second)) ⌝ }
-{
-    let number = layouts::sector_number(layout.sectors, sector);
-    let Checked::Passed = number else {
-        return number;
-    };
-    let area = layouts::area_length(layout.area_bytes, first);
-    let Checked::Passed = area else {
-        return area;
-    };
-    layouts::area_length(layout.area_bytes, second)
-}
-
-// 4, 9, 5 of a pick.
-pub(crate) fn pick_tested(layout: u32, sector: u32, first: usize, second: usize) -> Checked
-    ensures { λ r. ⌜ r ≡ told (refusal (pickTests layout sector first second)) ⌝ }
-{
-    let number = layouts::layout_number(layout);
-    let Checked::Passed = number else {
-        return number;
-    };
-    area_tests(layouts::layout_of(layout), sector, first, second)
 }

@@ -1,12 +1,8 @@
 // The reader's walk over a whole track, which keeps every sector's record and slot.
-use super::Answer;
-use super::Fault;
 use super::Reading;
-use super::Record;
-use super::Records;
 use super::blocks::next_record;
+use answers::Record;
 use layouts::Checked;
-use layouts::MOST_SECTORS;
 use layouts::Track;
 use walk::Block;
 use walk::Event;
@@ -18,7 +14,7 @@ ghost use Rattle.cells.specs.Cells.{cell};
 ghost use Rattle.marks.specs.Outcomes.{Housed};
 ghost use Rattle.walk.specs.Outcomes.{met};
 ghost use Rattle.walk.specs.Turns.{Placed};
-ghost use Rattle.read.specs.Answers.{areaOf};
+ghost use Rattle.read.specs.Records.{areaOf};
 ghost use Rattle.read.specs.Turns.{Modest, Enters, next};
 ghost use Rattle.read.specs.Outcomes.{reading};
 
@@ -45,12 +41,7 @@ pub(crate) fn read_track(track: Track, image: &[u8], area: &mut [u8]) -> Reading
     requires { ⌜ Housed (now image) × Modest (track .layout) × (now area ≡ replicate (track .layout .sectors * track .layout .size) 0) ⌝ }
     ensures { λ r. ⌜ (r ≡ reading track (now (image .entry))) × (now (area .exit) ≡ areaOf track (cell (now (image .entry))) (8 * length (now (image .entry))) (met track (now (image .entry)))) ⌝ }
 {
-    let unread = Record {
-        answer: Answer::Refused(Fault::NoIdentifier),
-    };
-    let mut records = Records {
-        list: [unread; MOST_SECTORS],
-    };
+    let mut records = answers::unread_records();
     let mut bad: u32 = 0;
     let mut foreign: u32 = 0;
     let mut place = 0;

@@ -8,7 +8,7 @@ use borrow.Author.Tests.{eq-eqb, ne-eqb, eqb-true, le-leb, lt-leb, leb-true, leb
 use lib.Dec.{eqb, leb}
 use lib.ListN.{length, getD}
 use Rattle.cells.specs.Cells.{cell}
-use Rattle.layouts.specs.Layouts.{layoutOf}
+use Rattle.layouts.specs.Layouts.{layoutOf, blockCells}
 use Rattle.layouts.specs.Refusals.{told, longestImage, imageTest, numberTest, areaTest, markTest}
 use Rattle.layouts.specs.declared.Layout.{Layout}
 use Rattle.layouts.specs.declared.Refusal.{Refusal}
@@ -17,13 +17,11 @@ use Rattle.layouts.specs.declared.Checked.{Checked}
 use Rattle.layouts.specs.declared.Checked.the-variants.{Passed, Refused}
 use Rattle.layouts.proofs.Refusals.{or-right, told-passed, then-passed, answer-refused, answer-passed}
 use Rattle.marks.specs.Marks.{markByte, markOf}
-use Rattle.marks.specs.declared.Mark.{Mark}
 use Rattle.marks.specs.declared.Mark.the-variants.{Data, Control}
 use Rattle.search.specs.Search.{blockMarks, isFound, standing, isStanding}
 use Rattle.search.specs.declared.Found.{Found}
-use Rattle.verdicts.specs.Tests.{Test, refusal, by}
+use Rattle.verdicts.specs.Tests.{refusal, by}
 use Rattle.verdicts.proofs.Tests.{clash, first-passed}
-use Rattle.walk.specs.Walk.{blockCells}
 use Rattle.rewrite.specs.Stores.{stored, noStore, blockEnd, stores, storeCount}
 use Rattle.rewrite.specs.Refusals.{holdsBlock, planned, blockTest, finishedTest, planTests, stepTests}
 use Rattle.rewrite.specs.Outcomes.{Steps, planAfter}

@@ -10,5 +10,3 @@ pub mod Counted
 pub mod Worked
 -- a step's tests, and how it ends
 pub mod Judged
--- what a request comes to
-pub mod Noting

@@ -6,15 +6,11 @@ use lib.ListN.{getD}
 use Rattle.layouts.specs.Layouts.{layoutOf}
 use Rattle.layouts.specs.Refusals.{refusalNumber, numberTest}
 use Rattle.verdicts.specs.Tests.{refusal, by}
-use Rattle.walk.specs.Outcomes.{found}
-use Rattle.walk.specs.declared.Located.{Located}
 use Rattle.rewrite.specs.Stores.{stored, noStore, storeCount}
-use Rattle.rewrite.specs.Refusals.{planned, stepTests, cellOf, requestTests}
+use Rattle.rewrite.specs.Refusals.{planned, stepTests}
 use Rattle.rewrite.specs.declared.Plan.{Plan}
 use Rattle.rewrite.specs.declared.Stepped.{Stepped}
 use Rattle.rewrite.specs.declared.Stepped.the-variants as step
-use Rattle.rewrite.specs.declared.Requested.{Requested}
-use Rattle.rewrite.specs.declared.Requested.the-variants as request
 
 -- ---- the number of stores
 
@@ -53,26 +49,3 @@ pub record Steps (plan : Plan) (mark : ℕ) (contents before : List ℕ) (answer
 abbrev pub steppedNumber : Stepped → ℕ
 steppedNumber (step.Made plan) = 0
 steppedNumber (step.Refused f) = refusalNumber f
-
--- ---- request
-
--- The plan that notes where the block is: nothing is made yet.
-abbrev pub firstPlan : (layout : ℕ) → Located → Plan
-firstPlan layout located = record { layout = layout; place = cellOf located; made = 0 }
-
--- What `request` answers: the refusal of the first test that applies, with its number alone, or the plan that notes the block's place.
-abbrev pub requestAnswer : (layout cylinder side sector mark : ℕ) → (contents image : List ℕ) → Requested
-requestAnswer layout cylinder side sector mark contents image =
-    by (refusal (requestTests layout cylinder side sector mark contents image))
-    (request.Planned (firstPlan layout (found layout cylinder side sector image)))
-    request.Refused
-
--- `request` refuses by the first test that applies; else it notes the block's place.
-abbrev pub Requests : (layout cylinder side sector mark : ℕ) → (contents image : List ℕ) → Requested → Type 0
-Requests layout cylinder side sector mark contents image answer =
-    answer ≡ requestAnswer layout cylinder side sector mark contents image
-
--- The number of a request's answer: 0 for a plan, else the refusal's (01, "Refused calls").
-abbrev pub requestedNumber : Requested → ℕ
-requestedNumber (request.Planned plan) = 0
-requestedNumber (request.Refused f) = refusalNumber f

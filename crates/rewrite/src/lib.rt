@@ -2,7 +2,7 @@
 // notes the block's place; each step is handed the mark and the bytes again, and trusts nothing of its plan.
 use layouts::Checked;
 use layouts::Refusal;
-ghost use Rattle.rewrite.specs.Outcomes.{CountsStores, Steps, Requests};
+ghost use Rattle.rewrite.specs.Outcomes.{CountsStores, Steps};
 
 mod refusals;
 mod values;
@@ -23,41 +23,12 @@ pub struct Store {
     pub value: u8,
 }
 
-// What a request answers.
-pub enum Requested {
-    // the block is found, and no store is made yet
-    Planned(Plan),
-    // there is no plan
-    Refused(Refusal),
-}
-
 // What a step answers.
 pub enum Stepped {
     // one store is made, and this is the plan for the next step
     Made(Plan),
     // nothing was changed, and the plan stays as it was
     Refused(Refusal),
-}
-
-// Asks for the rewrite of a sector: a plan that notes where its block is. `mark` is FB or F8, and `contents` the sector's new bytes. The image
-// is walked once, and only where the call itself is right.
-pub fn request(
-    layout: u32,
-    cylinder: u32,
-    side: u32,
-    sector: u32,
-    mark: u32,
-    contents: &[u8],
-    image: &[u8],
-) -> Requested
-    ensures { λ r. ⌜ Requests layout cylinder side sector mark (now (contents .entry)) (now (image .entry)) r ⌝ }
-{
-    let tested = refusals::call_tests(layout, cylinder, side, sector, mark, contents, image.len());
-    if let Checked::Refused(refusal) = tested {
-        return Requested::Refused(refusal);
-    }
-    let located = walk::locate(layout, cylinder, side, sector, image);
-    refusals::noted(layout, located)
 }
 
 // How many stores a rewrite by the plan makes in an image of `bytes` bytes; none above the highest layout.

@@ -11,9 +11,9 @@ use lib.ListN.{length, getD, take, drop, drop-of-length-le, set, replicate}
 use lib.Seq.{sets}
 use Rattle.cells.proofs.Stores.{sets-append, sets-whole}
 use Rattle.layouts.specs.Layouts.{mostSectors, numbers, slotIn}
-use Rattle.read.specs.Answers.{slots}
-use Rattle.read.specs.Outcomes.{unread}
-use Rattle.read.specs.declared.Record.{Record}
+use Rattle.read.specs.Records.{slots}
+use Rattle.answers.specs.Answers.{unread}
+use Rattle.answers.specs.declared.Record.{Record}
 use Rattle.read.proofs.Sectors.{length-slots, slots-at}
 use Rattle.station.specs.Records.{recordWidth, recordNumbers, sectorNumbers, recordList}
 

@@ -13,18 +13,18 @@ use Rattle.layouts.specs.Refusals.{told}
 use Rattle.layouts.specs.Tracks.{trackOf}
 use Rattle.layouts.specs.declared.Refusal.{Refusal}
 use Rattle.layouts.specs.declared.Track.{Track}
-use Rattle.read.specs.Answers.{answerOf, recordFor, sectorOf, recordsOf}
-use Rattle.read.specs.Outcomes.{unread, readTests, reading, refusedReading, readAnswer}
-use Rattle.read.specs.Picks.{recordAt, stretchIn}
-use Rattle.read.specs.declared.Record.{Record}
+use Rattle.answers.specs.Answers.{answerOf, unread}
+use Rattle.read.specs.Records.{sectorOf, recordsOf}
+use Rattle.read.specs.Outcomes.{readTests, reading, refusedReading, readAnswer}
+use Rattle.pick.specs.Picks.{recordAt, stretchIn}
+use Rattle.answers.specs.declared.Record.{Record}
 use Rattle.read.specs.declared.Reading.{Reading}
-use Rattle.read.specs.declared.Choice.{Choice}
-use Rattle.read.specs.declared.Choice.the-variants.{First, Second, Neither, Refused}
-use Rattle.read.proofs.Numbering.{answer-back}
+use Rattle.pick.specs.declared.Choice.{Choice}
+use Rattle.pick.specs.declared.Choice.the-variants.{First, Second, Neither, Refused}
+use Rattle.answers.proofs.Numbering.{answer-back}
 use Rattle.read.proofs.Sectors.{map-at}
 use Rattle.verdicts.specs.Tests.{Verdict, passed, refused, refusal, by}
 use Rattle.verdicts.proofs.Tests.{by-map}
-use Rattle.walk.specs.Events.{blocks}
 use Rattle.walk.specs.Outcomes.{met}
 use Rattle.walk.specs.declared.Event.{Event}
 use Rattle.station.specs.Outcomes.{GivesRead, GivesPick}

@@ -5,13 +5,13 @@ use native.Mathlib.Omega.{arith}
 use Rattle.layouts.specs.Layouts.{layoutOf, mostSectors}
 use Rattle.layouts.specs.declared.Refusal.{Refusal}
 use Rattle.verdicts.specs.Tests.{Verdict, passed, refused, refusal, by}
-use Rattle.read.specs.Picks.{pickTests, choice, chosenOf}
-use Rattle.read.specs.declared.Record.{Record}
-use Rattle.read.specs.declared.Choice.{Choice}
-use Rattle.read.specs.declared.Choice.the-variants.{First, Second, Neither, Refused}
+use Rattle.pick.specs.Picks.{pickTests, choice, chosenOf}
+use Rattle.answers.specs.declared.Record.{Record}
+use Rattle.pick.specs.declared.Choice.{Choice}
+use Rattle.pick.specs.declared.Choice.the-variants.{First, Second, Neither, Refused}
 use Rattle.read.proofs.Passing.{modest}
-use Rattle.read.proofs.Picking.{pickable}
-use Rattle.read.proofs.Sectors.{slot-room}
+use Rattle.pick.proofs.Picking.{pickable}
+use Rattle.layouts.proofs.Layouts.{slot-room}
 use Rattle.station.specs.Picks.{There, Known}
 
 -- A slot's numbers are small: it lies within an area of the most sectors.

@@ -7,18 +7,19 @@ use Rattle.cells.specs.Cells.{cell, dataByte}
 use Rattle.cells.specs.Coding.{high, low}
 use Rattle.cells.specs.declared.Mode.{Mode}
 use Rattle.edc.specs.Register.{edcOf}
-use Rattle.format.specs.Outcomes.{formattedNumber, formatAnswer, formatImage}
+use Rattle.format.specs.Outcomes.{formatImage}
+use Rattle.format.specs.Refusals.{formatTests}
 use Rattle.layouts.specs.Layouts.{layoutOf}
-use Rattle.layouts.specs.Refusals.{refusalNumber, told}
-use Rattle.layouts.specs.declared.Checked.{Checked}
+use Rattle.layouts.specs.Refusals.{refusalNumber}
 use Rattle.layouts.specs.declared.Refusal.{Refusal}
 use Rattle.read.specs.Outcomes.{readTests, readAnswer, readArea}
-use Rattle.rewrite.specs.Outcomes.{storesInAll, stepAnswer, stepImage, steppedNumber, requestAnswer, requestedNumber}
+use Rattle.rewrite.specs.Outcomes.{storesInAll, stepAnswer, stepImage, steppedNumber}
+use Rattle.request.specs.Outcomes.{requestAnswer, requestedNumber}
 use Rattle.rewrite.specs.declared.Plan.{Plan}
 use Rattle.rewrite.specs.declared.Stepped.{Stepped}
 use Rattle.rewrite.specs.declared.Stepped.the-variants as step
-use Rattle.rewrite.specs.declared.Requested.{Requested}
-use Rattle.rewrite.specs.declared.Requested.the-variants as request
+use Rattle.request.specs.declared.Requested.{Requested}
+use Rattle.request.specs.declared.Requested.the-variants as request
 use Rattle.verdicts.specs.Tests.{Verdict, refusal, by}
 use Rattle.station.specs.Picks.{numberedChoice, pickNumber, partOf}
 use Rattle.station.specs.Records.{recordList}
@@ -35,19 +36,15 @@ GivesCoded mode before byte answer = answer ≡ high mode before byte * 256 + lo
 abbrev pub GivesDataByte : List ℕ → ℕ → ℕ → Type 0
 GivesDataByte image place answer = answer ≡ dataByte (cell image) place
 
--- `station_format` answers 0, and leaves the track in the image; or the number of the first refusal that applies, and leaves the image as
--- it was.
-pub record GivesFormat (layout cylinder side : ℕ) (contents marks before : List ℕ) (answer : ℕ) (after : List ℕ) : Type 0 where
-  pub answers : answer ≡ formattedNumber (formatAnswer layout cylinder side contents marks before)
-  pub leaves : after ≡ formatImage layout cylinder side contents marks before
-
 -- The number of a verdict: 0, or the refusal's (01, "Refused calls").
 abbrev pub verdictNumber : Verdict Refusal → ℕ
 verdictNumber v = by v 0 refusalNumber
 
--- The number goes with what is told of a verdict. (An aid of the code; no promise rests on it.)
-abbrev pub IsVerdictNumber : Checked → ℕ → Type 0
-IsVerdictNumber answer number = (v : Verdict Refusal) → answer ≡ told v → number ≡ verdictNumber v
+-- `station_format` answers 0, and leaves the track in the image; or the number of the first refusal that applies, and leaves the image as
+-- it was.
+pub record GivesFormat (layout cylinder side : ℕ) (contents marks before : List ℕ) (answer : ℕ) (after : List ℕ) : Type 0 where
+  pub answers : answer ≡ verdictNumber (refusal (formatTests layout cylinder side contents marks (length before)))
+  pub leaves : after ≡ formatImage layout cylinder side contents marks before
 
 -- `station_read` gives the verdict's number, the records by sector in numbers, the two counts, and what the read leaves in the area.
 pub record GivesRead (layout cylinder side : ℕ) (image : List ℕ) (given number : ℕ) (area answers counts : List ℕ) : Type 0 where

@@ -5,10 +5,10 @@ use lib.ListN.{length, replicate}
 use Rattle.layouts.specs.Layouts.{mostSectors}
 use Rattle.layouts.specs.Refusals.{refusalNumber}
 use Rattle.layouts.specs.declared.Layout.{Layout}
-use Rattle.read.specs.Answers.{answerNumber}
-use Rattle.read.specs.Picks.{chosenOf}
-use Rattle.read.specs.declared.Choice.{Choice}
-use Rattle.read.specs.declared.Choice.the-variants.{First, Second, Neither, Refused}
+use Rattle.answers.specs.Answers.{answerNumber}
+use Rattle.pick.specs.Picks.{chosenOf}
+use Rattle.pick.specs.declared.Choice.{Choice}
+use Rattle.pick.specs.declared.Choice.the-variants.{First, Second, Neither, Refused}
 use Rattle.station.specs.Records.{numberedAt}
 
 -- What is picked of two passes, by their areas and the numbers of their records.

@@ -6,9 +6,9 @@ use Prim.Native.Nat.{ℕ, _-_}
 use lib.Dec.{leb}
 use lib.ListN.{getD, replicate}
 use Rattle.layouts.specs.Layouts.{mostSectors, numbers, slotIn}
-use Rattle.read.specs.Answers.{answerNumber, answerOf, slots}
-use Rattle.read.specs.Outcomes.{unread}
-use Rattle.read.specs.declared.Record.{Record}
+use Rattle.answers.specs.Answers.{answerNumber, answerOf, unread}
+use Rattle.read.specs.Records.{slots}
+use Rattle.answers.specs.declared.Record.{Record}
 
 -- How many numbers a record is handed out in.
 abbrev pub recordWidth : ℕ

@@ -1,17 +1,15 @@
 // The library for C and Rust: thin functions over the crates that own the rules.
 use cells::Mode;
-use layouts::Checked;
 ghost use mathlib.Core.Path.{_≡_};
 ghost use Prim.Native.Nat.{_+_, _*_};
 ghost use lib.ListN.{length};
 ghost use Rattle.cells.specs.Coding.{high, low};
 ghost use Rattle.cells.specs.declared.Mode.the-variants.{Fm, Mfm};
 ghost use Rattle.station.specs.Outcomes.{GivesEdc, GivesCoded, GivesDataByte, GivesFormat, GivesRead, GivesPick, GivesRequest, GivesStep};
-ghost use Rattle.station.specs.Outcomes.{IsVerdictNumber};
 
-mod pick;
 mod records;
 mod rewriting;
+mod taken;
 
 // The EDC of the bytes, with the register all ones at the start.
 #[no_mangle]
@@ -67,17 +65,7 @@ pub extern "C" fn station_format(
     ensures { λ r. ⌜ GivesFormat layout cylinder side (now («data» .entry)) (now (marks .entry)) (now (image .entry)) r (now (image .exit)) ⌝ }
 {
     let answer = format::format(layout, cylinder, side, data, marks, image);
-    format::formatted_number(answer)
-}
-
-// The number of the verdict that this tells: 0, or the refusal's.
-fn verdict_number(verdict: Checked) -> u8
-    ensures { λ r. ⌜ IsVerdictNumber verdict r ⌝ }
-{
-    match verdict {
-        Checked::Passed => 0,
-        Checked::Refused(refusal) => layouts::refusal_number(refusal),
-    }
+    layouts::checked_number(answer)
 }
 
 // Reads a track: 0, or the number of the refusal. `area` gets a slot for each sector number, `answers` the papers' numbers by sector and 0 past
@@ -98,7 +86,7 @@ pub extern "C" fn station_read(
     *answers = records::list_of(reading.sectors, reading.records);
     *counts = [reading.bad, reading.foreign];
     let verdict = reading.verdict;
-    verdict_number(verdict)
+    layouts::checked_number(verdict)
 }
 
 // Picks a sector from two passes over one track: the number of its answer, or of the refusal. Each pass is the area and the answers that
@@ -118,9 +106,9 @@ pub extern "C" fn station_pick(
 {
     let one = records::record_at(first_answers, sector);
     let two = records::record_at(second_answers, sector);
-    let picked = read::choose(layout, sector, first.len(), second.len(), one, two);
-    *taken = pick::part_of(layout, sector, picked);
-    pick::pick_number(picked)
+    let picked = pick::choose(layout, sector, first.len(), second.len(), one, two);
+    *taken = taken::part_of(layout, sector, picked);
+    taken::pick_number(picked)
 }
 
 // Asks for the rewrite of a sector: 0, and `plan` gets the layout, the cell at which the block's mark begins, 0 for the stores made, and the
@@ -138,7 +126,7 @@ pub extern "C" fn station_request(
 ) -> u8
     ensures { λ r. ⌜ GivesRequest layout cylinder side sector mark (now (contents .entry)) (now (image .entry)) r (now (plan .exit)) ⌝ }
 {
-    let answer = rewrite::request(layout, cylinder, side, sector, mark, contents, image);
+    let answer = request::request(layout, cylinder, side, sector, mark, contents, image);
     *plan = rewriting::noted(answer, image.len());
     rewriting::request_number(answer)
 }

@@ -1,13 +1,13 @@
 // Records in numbers: what `station_read` hands out for each sector, and what `station_pick` takes back.
+use answers::Record;
+use answers::Records;
 use layouts::MOST_SECTORS;
-use read::Record;
-use read::Records;
 ghost use mathlib.Core.Bool.{cond};
 ghost use mathlib.Core.Path.{_≡_};
 ghost use Prim.Native.Nat.{_-_, _*_};
 ghost use lib.ListN.{length, replicate};
 ghost use Rattle.layouts.specs.Layouts.{mostSectors};
-ghost use Rattle.read.specs.Answers.{answerNumber};
+ghost use Rattle.answers.specs.Answers.{answerNumber};
 ghost use Rattle.station.specs.Records.{recordWidth, recordNumbers, recordList, numberedAt};
 
 // How many numbers a record is handed out in.
@@ -18,7 +18,7 @@ pub(crate) fn record_number(record: Record) -> u8
     ensures { λ r. ⌜ r ≡ answerNumber («record» .answer) ⌝ }
 {
     let answer = record.answer;
-    read::answer_number(answer)
+    answers::answer_number(answer)
 }
 
 // A sector's numbers, or zeros where the track has no such sector.
@@ -64,10 +64,10 @@ pub(crate) fn record_at(list: &[u8], sector: u32) -> Record
     if index < MOST_SECTORS {
         let number = list[index * WIDTH];
         return Record {
-            answer: read::answer_of(number as u32),
+            answer: answers::answer_of(number as u32),
         };
     }
     Record {
-        answer: read::answer_of(0),
+        answer: answers::answer_of(0),
     }
 }

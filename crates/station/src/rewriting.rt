@@ -1,10 +1,11 @@
 // A plan as four numbers, for the exported functions of the rewrite: the layout, the cell at which the block's mark begins, the stores made, and
 // the stores in all. The fourth is for the caller; a step takes the first three as they are, and works out the fourth anew.
+use request::Requested;
 use rewrite::Plan;
-use rewrite::Requested;
 use rewrite::Stepped;
 ghost use mathlib.Core.Path.{_≡_};
-ghost use Rattle.rewrite.specs.Outcomes.{requestedNumber, steppedNumber};
+ghost use Rattle.request.specs.Outcomes.{requestedNumber};
+ghost use Rattle.rewrite.specs.Outcomes.{steppedNumber};
 ghost use Rattle.station.specs.Outcomes.{planNumbers, numberedPlan, noted, moved};
 
 // A plan's numbers, where the image has `bytes` bytes.

@@ -5,7 +5,8 @@ use mathlib.Core.List.{List, [], _∷_}
 use Prim.Native.Nat.{ℕ, zero, suc, _+_, _≤_}
 use lib.Dec.{eqb}
 use Rattle.layouts.specs.declared.Track.{Track}
-use Rattle.walk.specs.Walk.{blockCells, round, follow, walk, events}
+use Rattle.layouts.specs.Layouts.{blockCells}
+use Rattle.walk.specs.Walk.{round, follow, walk, events}
 use Rattle.walk.specs.Events.{blocks, located}
 use Rattle.walk.specs.declared.Block.{Block}
 use Rattle.walk.specs.declared.Block.the-variants.{Missing, Beyond, Within}

@@ -1,17 +1,15 @@
--- What is known of a call that its tests pass: 2, 3, 4 and 1, with which every reading begins, and 9.
+-- What is known of a call that its tests pass: 2, 3, 4 and 1, with which every reading begins.
 use mathlib.Core.Path.{_≡_}
-use mathlib.Core.Bool.{false}
 use mathlib.Core.List.{[], _∷_}
-use Prim.Native.Nat.{ℕ, zero, suc, _≤_}
-use native.Mathlib.Omega.{arith}
+use Prim.Native.Nat.{ℕ, _≤_}
 use borrow.Author.Tests.{ltb-false}
 use lib.Dec.{eqb, ltb}
 use Rattle.layouts.specs.Layouts.{highest}
-use Rattle.layouts.specs.Refusals.{longestImage, imageTest, sectorTest, trackTests, readingTests}
+use Rattle.layouts.specs.Refusals.{longestImage, imageTest, trackTests, readingTests}
 use Rattle.layouts.specs.Tracks.{highestCylinder, highestSide}
-use Rattle.layouts.proofs.Refusals.{or-left, or-right, track-known}
+use Rattle.layouts.proofs.Refusals.{or-right, track-known}
 use Rattle.verdicts.specs.Tests.{passed, refusal}
-use Rattle.verdicts.proofs.Tests.{clash, passed-both, first-passed}
+use Rattle.verdicts.proofs.Tests.{passed-both, first-passed}
 
 pub record Readable (layout cylinder side image : ℕ) : Type 0 where
   pub known : layout ≤ highest
@@ -31,13 +29,3 @@ readable layout cylinder side image h =
       sides = track .2;
       long = ltb-false _ _ (or-right (eqb image 0) (ltb longestImage image) (one .0));
     }
-
-pub sector-known : (sectors sector : ℕ) → sectorTest sectors sector .applies ≡ false → (1 ≤ sector) × (sector ≤ sectors)
-sector-known sectors sector h = (
-  low sector (or-left (eqb sector 0) (ltb sectors sector) h),
-  ltb-false _ _ (or-right (eqb sector 0) (ltb sectors sector) h),
-)
-  where
-    low : (s : ℕ) → eqb s 0 ≡ false → 1 ≤ s
-    low zero e = absurd (clash cc)
-    low (suc s) e = omega arith

@@ -17,7 +17,8 @@ use Rattle.marks.specs.declared.Mark.the-variants.{Identifier}
 use Rattle.search.specs.declared.Found.{Found}
 use Rattle.search.specs.declared.Found.the-variants.{At, Nothing}
 use Rattle.search.proofs.Firsts.{first-known}
-use Rattle.walk.specs.Walk.{reach, blockCells, edcRight, ours, claimed, first, reached, accepted, owned, judged, roomy, marked, round}
+use Rattle.walk.specs.Walk.{reach, edcRight, ours, claimed, first, reached, accepted, owned, judged, roomy, marked, round}
+use Rattle.layouts.specs.Layouts.{blockCells}
 use Rattle.walk.specs.declared.Block.the-variants.{Missing, Beyond, Within}
 use Rattle.walk.specs.declared.Event.{Event}
 use Rattle.walk.specs.declared.Event.the-variants.{Bad, Foreign, Accepted}

@@ -2,12 +2,13 @@
 -- (01, "How a track is read"). As in cells, c i is cell i of the image, and n the number of its cells.
 use mathlib.Core.Bool.{Bool, true, false, _&&_}
 use mathlib.Core.List.{List, [], _∷_, _++_}
-use Prim.Native.Nat.{ℕ, zero, suc, _+_, _*_}
+use Prim.Native.Nat.{ℕ, zero, suc, _+_}
 use lib.Dec.{eqb, leb}
 use Rattle.cells.specs.Cells.{dataByte, dataBytes}
 use Rattle.cells.specs.declared.Mode.{Mode}
 use Rattle.cells.specs.declared.Mode.the-variants.{Fm, Mfm}
 use Rattle.edc.specs.Register.{edcOf}
+use Rattle.layouts.specs.Layouts.{blockCells}
 use Rattle.layouts.specs.declared.Layout.{Layout}
 use Rattle.layouts.specs.declared.Track.{Track}
 use Rattle.marks.specs.Marks.{covered, markCells}
@@ -26,10 +27,6 @@ use Rattle.walk.specs.declared.Round.the-variants.{Ends, Meets}
 abbrev pub reach : Mode → ℕ
 reach Fm = 544
 reach Mfm = 1088
-
--- The cells of a block with its mark: N data bytes and the EDC (step 4).
-abbrev pub blockCells : Layout → ℕ
-blockCells l = markCells (l .mode) + 16 * (l .size + 2)
 
 -- After a mark the k bytes from cell p on end with their right EDC: nothing is left in the register (01, "Order on the track").
 unfoldable pub edcRight : Mode → (ℕ → ℕ) → Mark → ℕ → ℕ → Bool

@@ -4,12 +4,11 @@ use native.Mathlib.Omega.{arith}
 use denote.Ref.{now}
 use lib.ListN.{length}
 use borrow.Author.Needs.{needs}
-use Rattle.verdicts.specs.Tests.{refusal, by}
+use Rattle.verdicts.specs.Tests.{by}
 use Rattle.layouts.specs.Layouts.{layoutOf, Every}
 use Rattle.layouts.specs.declared.Track.{Track}
-use Rattle.layouts.proofs.Refusals.{told-passed, told-refused}
+use Rattle.layouts.proofs.Refusals.{told-passed, answer-refused}
 use Rattle.format.specs.Order.{Numbered}
-use Rattle.format.specs.Refusals.{formatTests}
 use Rattle.format.proofs.Parts.{length-numbers, numbered, natural}
 use Rattle.format.proofs.Accepted.{usable, accepted, in-natural-order}
 use Rattle.format.proofs.format.Statement.{statement}
@@ -17,9 +16,6 @@ use Rattle.format.proofs.format.Tie as tie
 
 tested-requires : tie.Need-tested-requires
 tested-requires c κs = search needs
-
-enum-known-refusal : tie.Need-enum-known-refusal
-enum-known-refusal c = search needs
 
 enum-told : tie.Need-enum-told
 enum-told c = search needs
@@ -52,39 +48,43 @@ write-track-requires c κs =
       (ap length n ∙ length-numbers (l .sectors) 1, subst (Every (Numbered l)) (sym n) (numbered l)),
     )
 
-returns : tie.Need-returns
-unfolding by
-returns c =
-    let a = c .before .before .before .before .before .before .before .args in
-    let verdict = refusal (formatTests (a .layout) (a .cylinder) (a .side) (now (a .«data»)) (now (a .marks)) (length (now (a .image)))) in
-    let refuses = told-refused verdict _ _ (c .before .before .before .tested .ensures) (c .before .refusal .given .1) in
-    record { answers = rw refuses; leaves = rw refuses }
+enum-told-2 : tie.Need-enum-told-2
+enum-told-2 c = search needs
 
 same-length : tie.Need-same-length
 same-length c = search needs
 
-returns-2 : tie.Need-returns-2
+returns : tie.Need-returns
 unfolding by
-returns-2 c =
+returns c =
     let w = c .before .before in
     let k = w .before .before .before .before in
-    let a = k .before .before .before .before .before .before .before .args in
-    let verdict = refusal (formatTests (a .layout) (a .cylinder) (a .side) (now (a .«data»)) (now (a .marks)) (length (now (a .image)))) in
-    let passes = told-passed verdict _ (k .before .before .before .tested .ensures) (k .before .enum-told .given .1) in
-    record { answers = rw passes; leaves = rw passes (in-natural-order (a .layout) (a .cylinder) (a .side) _ _ _ _ (k .track-of .ensures) (w .write-track .ensures)) }
+    let t = k .before .before .before in
+    let a = t .before .before .before .before .args in
+    let passes = told-passed _ _ (t .tested .ensures) (k .before .enum-told .given .1) in
+    record {
+      answers = t .tested .ensures;
+      leaves = rw passes (in-natural-order (a .layout) (a .cylinder) (a .side) _ _ _ _ (k .track-of .ensures) (w .write-track .ensures));
+    }
+
+returns-2 : tie.Need-returns-2
+returns-2 c =
+    let t = c .before .before in
+    let image = now (t .before .before .before .before .args .image) in
+    record { answers = t .tested .ensures; leaves = answer-refused _ (λ f. image) _ _ (t .tested .ensures) _ (c .enum-told2 .given .1) }
 
 pub format-spec : {M : Type 1} → statement M
 format-spec =
     tie.close
     (tie.spec
     tested-requires
-    enum-known-refusal
     enum-told
     track-of-requires
     sub-write-track
     part-write-track-start
     part-write-track-end
     write-track-requires
-    returns
+    enum-told-2
     same-length
+    returns
     returns-2)

@@ -8,9 +8,9 @@ use borrow.Author.Tests.{eq-eqb, ne-eqb, le-ltb}
 use lib.ListN.{length}
 use Rattle.cells.specs.Cells.{cell, Bytes}
 use Rattle.format.specs.Order.{Numbered, formatted}
-use Rattle.format.specs.Refusals.{formTests, contentTests, formatTests}
-use Rattle.format.specs.declared.Formatted.the-variants.{Written}
-use Rattle.format.specs.declared.Formatted.the-variants as refusing
+use Rattle.format.specs.Refusals.{formTests, formatTests}
+use Rattle.layouts.specs.declared.Checked.the-variants.{Passed}
+use Rattle.layouts.proofs.Refusals.{told-passed}
 use Rattle.format.proofs.Accepted.{Accepted, accepted}
 use Rattle.format.proofs.Judged.{passed-by}
 use Rattle.format.proofs.Parts.{slots, length-numbers, length-fields, numbered}
@@ -20,20 +20,20 @@ use Rattle.layouts.specs.Tracks.{trackOf}
 use Rattle.layouts.specs.declared.Layout.{Layout}
 use Rattle.layouts.specs.declared.Track.{Track}
 use Rattle.layouts.proofs.Layouts.{every-layout, adds}
-use Rattle.layouts.proofs.Refusals.{answer-passed}
-use Rattle.read.specs.Answers.{Sector, answerNumber, sectorOf, areaOf, recordsOf}
-use Rattle.read.specs.Outcomes.{unread, reading, readTests, readAnswer, readArea, Reads}
-use Rattle.read.specs.Picks.{recordAt}
+use Rattle.read.specs.Records.{areaOf, recordsOf}
+use Rattle.answers.specs.Answers.{answerNumber, unread}
+use Rattle.read.specs.Outcomes.{reading, readTests, readAnswer, readArea}
+use Rattle.pick.specs.Picks.{recordAt}
 use Rattle.read.specs.declared.Reading.{Reading}
-use Rattle.read.specs.declared.Record.{Record}
+use Rattle.answers.specs.declared.Record.{Record}
 use Rattle.read.proofs.Passing.{modest}
 use Rattle.read.proofs.Recording.{length-sector}
 use Rattle.read.proofs.Sectors.{map-at, slots-at, length-slots}
-use Rattle.verdicts.specs.Tests.{Verdict, passed, refusal, by}
-use Rattle.verdicts.proofs.Tests.{clash, append-passed, passed-both, by-passed}
+use Rattle.verdicts.specs.Tests.{passed, refusal, by}
+use Rattle.verdicts.proofs.Tests.{append-passed, passed-both}
 use Rattle.walk.specs.Events.{blocks}
 use Rattle.walk.specs.Outcomes.{met}
-use Rattle.promises.specs.RoundTrip.{Legible, ReadsBack, HandsBack, ReadsBackAsWritten}
+use Rattle.promises.specs.RoundTrip.{Legible, ReadsBack, ReadsBackAsWritten}
 use Rattle.promises.specs.Sectors.{sectorIn}
 use Rattle.promises.proofs.formatting.Trip.{OnePlace, one-place, round-trip, natural}
 
@@ -140,8 +140,7 @@ pub format-then-read : ReadsBackAsWritten
 unfolding readAnswer readArea by
 format-then-read layout cylinder side contents marks before image answer area all formats reads =
     let t = trackOf layout cylinder side in
-    let passes = by-passed Written refusing.Refused (λ f e. clash cc) (λ g f e. cc)
-    (refusal (formatTests layout cylinder side contents marks (length before))) Written (formats .answers) refl in
+    let passes = told-passed (refusal (formatTests layout cylinder side contents marks (length before))) Passed (formats .answers) refl in
     let same : image ≡ written t contents marks = formats .leaves ∙ rw passes in
     let back = accepted-trip layout cylinder side contents marks (length before) all passes in
     let read = accepted-read layout cylinder side contents marks (length before) all passes in

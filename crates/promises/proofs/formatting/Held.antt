@@ -18,7 +18,7 @@ use Rattle.layouts.specs.Layouts.{Every}
 use Rattle.format.proofs.Parts.{Slotted, length-slot, width-sector}
 use Rattle.format.specs.Places.{sectorPlace, identifierPlace, blockPlace}
 use Rattle.format.proofs.Symbols.{length-image, width, width-run, length-checked}
-use Rattle.layouts.specs.Layouts.{gapByte, sectorFields, slotIn}
+use Rattle.layouts.specs.Layouts.{gapByte, sectorFields, slotIn, blockCells}
 use Rattle.layouts.specs.declared.Layout.{Layout}
 use Rattle.layouts.specs.declared.Track.{Track}
 use Rattle.marks.specs.Marks.{string, covered}
@@ -26,7 +26,6 @@ use Rattle.marks.specs.declared.Mark.{Mark}
 use Rattle.marks.specs.declared.Mark.the-variants.{Index, Identifier}
 use Rattle.marks.proofs.Spelling.{Stand}
 use Rattle.marks.specs.Marks.{markCells}
-use Rattle.walk.specs.Walk.{blockCells}
 use Rattle.promises.specs.RoundTrip.{Legible}
 use Rattle.promises.proofs.formatting.Standing.{On, on-move, on-mark, on-bytes, on-image}
 use Rattle.promises.proofs.formatting.Quiet.{Quiet, quiet-none, quiet-join}

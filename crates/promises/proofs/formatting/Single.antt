@@ -18,7 +18,7 @@ use Rattle.layouts.specs.declared.Layout.{Layout}
 use Rattle.layouts.specs.declared.Track.{Track}
 use Rattle.marks.specs.Marks.{markCells, markOf, covered}
 use Rattle.marks.specs.declared.Mark.{Mark}
-use Rattle.read.specs.Answers.{sectorOf}
+use Rattle.read.specs.Records.{sectorOf}
 use Rattle.walk.specs.Events.{bads, foreigns, blocks}
 use Rattle.walk.specs.declared.Block.{Block}
 use Rattle.walk.specs.declared.Block.the-variants.{Within}

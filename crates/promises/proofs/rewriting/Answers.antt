@@ -13,11 +13,12 @@ use Rattle.layouts.specs.declared.Track.{Track}
 use Rattle.marks.specs.Marks.{markCells, stands}
 use Rattle.marks.specs.declared.Mark.{Mark}
 use Rattle.marks.specs.declared.Mark.the-variants as marks
-use Rattle.read.specs.Answers.{Sector, answering, proved, blockAnswer, blockBytes, identifierRecord, recordFor, sectorOf}
-use Rattle.read.specs.declared.Answer.{Answer}
+use Rattle.read.specs.Records.{answering, proved, blockAnswer, blockBytes, identifierRecord, recordFor, sectorOf}
+use Rattle.answers.specs.declared.Answer.{Answer}
 use Rattle.search.proofs.Searching.{searchable}
 use Rattle.walk.specs.Events.{bads, foreigns, blocks}
-use Rattle.walk.specs.Walk.{blockCells, edcRight, events}
+use Rattle.layouts.specs.Layouts.{blockCells}
+use Rattle.walk.specs.Walk.{edcRight, events}
 use Rattle.walk.specs.declared.Block.{Block}
 use Rattle.walk.specs.declared.Block.the-variants.{Missing, Beyond, Within}
 use Rattle.walk.specs.declared.Event.{Event}

@@ -1,21 +1,20 @@
 -- On a track that format wrote every sector can be rewritten: its block is found, on a byte boundary.
 use mathlib.Core.Path.{_≡_, refl, subst, sym, _∙_}
-use mathlib.Core.List.{List, [], _∷_, _++_}
-use Prim.Native.Nat.{ℕ, _*_, _%_, _≤_}
+use mathlib.Core.List.{List, [], _∷_}
+use Prim.Native.Nat.{ℕ, _*_, _≤_}
 use native.Mathlib.Omega.{arith}
 use borrow.Author.Tests.{ne-eqb, le-ltb}
-use lib.Dec.{eqb, ltb}
 use lib.ListN.{length}
 use Rattle.format.specs.Refusals.{formatTests}
-use Rattle.format.specs.declared.Formatted.the-variants.{Written}
-use Rattle.format.specs.declared.Formatted.the-variants as refusing
+use Rattle.layouts.specs.declared.Checked.the-variants.{Passed}
+use Rattle.layouts.proofs.Refusals.{told-passed}
 use Rattle.format.proofs.Judged.{passed-by}
 use Rattle.layouts.specs.Layouts.{layoutOf}
 use Rattle.layouts.specs.Refusals.{areaTest, sectorTest, readingTests}
 use Rattle.layouts.specs.Tracks.{trackOf}
 use Rattle.read.specs.Outcomes.{readTests}
 use Rattle.verdicts.specs.Tests.{passed, refusal, by}
-use Rattle.verdicts.proofs.Tests.{clash, append-passed, passed-both, by-passed}
+use Rattle.verdicts.proofs.Tests.{append-passed, passed-both}
 use Rattle.walk.specs.Outcomes.{locateTests}
 use Rattle.promises.specs.Rewriting.{Accepted, FormattedCanBeRewritten}
 use Rattle.promises.proofs.formatting.Calls.{written, accepted-place, accepted-read}
@@ -35,8 +34,7 @@ pub formatted-can-be-rewritten : FormattedCanBeRewritten
 unfolding by
 formatted-can-be-rewritten layout cylinder side contents marks before image small formats sector mark new numbered fit =
     let t = trackOf layout cylinder side in
-    let passes = by-passed Written refusing.Refused (λ f e. clash cc) (λ g f e. cc)
-    (refusal (formatTests layout cylinder side contents marks (length before))) Written (formats .answers) refl in
+    let passes = told-passed (refusal (formatTests layout cylinder side contents marks (length before))) Passed (formats .answers) refl in
     let same : image ≡ written t contents marks = formats .leaves ∙ rw passes in
     let place = accepted-place layout cylinder side contents marks (length before) small passes sector numbered in
     let read = accepted-read layout cylinder side contents marks (length before) small passes in

@@ -16,7 +16,8 @@ use Rattle.marks.specs.declared.Mark.the-variants.{Index, Identifier, Data, Con
 use Rattle.search.specs.declared.Found.the-variants.{At}
 use Rattle.search.proofs.Firsts.{first-known}
 use Rattle.search.specs.Search.{identifierMarks, eitherMarks, blockMarks}
-use Rattle.walk.specs.Walk.{blockCells, round, follow, walk, events}
+use Rattle.layouts.specs.Layouts.{blockCells}
+use Rattle.walk.specs.Walk.{round, follow, walk, events}
 use Rattle.walk.specs.Events.{blocks}
 use Rattle.walk.specs.declared.Block.{Block}
 use Rattle.walk.specs.declared.Block.the-variants.{Missing, Beyond, Within}

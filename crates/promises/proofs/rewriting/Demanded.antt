@@ -9,12 +9,11 @@ use Rattle.layouts.specs.Layouts.{layoutOf}
 use Rattle.layouts.specs.Tracks.{trackOf}
 use Rattle.marks.specs.Marks.{markOf}
 use Rattle.rewrite.specs.Stores.{storeCount}
-use Rattle.rewrite.specs.Outcomes.{Requests}
+use Rattle.request.specs.Outcomes.{Requests}
 use Rattle.promises.specs.Cuts.{cut, finished}
 use Rattle.promises.specs.Rewriting.{Fit, Ran, number, Stepwise, Survives, StartsAgain, Demand3}
 use Rattle.rewrite.specs.declared.Plan.{Plan}
-use Rattle.rewrite.specs.declared.Requested.the-variants as request
-use Rattle.walk.specs.declared.Block.{Block}
+use Rattle.request.specs.declared.Requested.the-variants as request
 use Rattle.walk.specs.declared.Block.the-variants.{Within}
 use Rattle.promises.proofs.rewriting.Answers.{found-again}
 use Rattle.rewrite.proofs.Listed.{stores-count}

@@ -17,7 +17,7 @@ use Rattle.marks.specs.Marks.{lastByte}
 use Rattle.search.proofs.Searching.{le-or-lt}
 use Rattle.marks.specs.Marks.{markCells}
 use Rattle.search.specs.Search.{blockMarks}
-use Rattle.walk.specs.Walk.{blockCells}
+use Rattle.layouts.specs.Layouts.{blockCells}
 use Rattle.promises.proofs.rewriting.Rewritten.{Rewritten}
 use Rattle.promises.proofs.rewriting.Touched.{cell-at, cell-stored, low-cells, store-mark, store-block, edge-cells}
 

@@ -2,7 +2,7 @@
 -- such a sector are accepted.
 use mathlib.Core.Path.{_≡_, refl, _∙_}
 use mathlib.Core.Bool.{true, false}
-use mathlib.Core.List.{List, [], _∷_, _++_}
+use mathlib.Core.List.{List, [], _∷_}
 use Prim.Native.Nat.{ℕ, _%_, _≤_}
 use borrow.Author.Tests.{eq-eqb, eqb-true, not-false}
 use lib.ListN.{length}
@@ -10,18 +10,17 @@ use Rattle.layouts.specs.Layouts.{highest, layoutOf}
 use Rattle.layouts.specs.Refusals.{imageTest, readingTests, trackTests}
 use Rattle.layouts.specs.Tracks.{trackOf}
 use Rattle.layouts.specs.declared.Refusal.{Refusal}
-use Rattle.layouts.proofs.Refusals.{track-known}
-use Rattle.rewrite.specs.Refusals.{isWithin, cellOf, contentsTests, callTests, placeTests, requestTests}
-use Rattle.rewrite.specs.Outcomes.{Requests, firstPlan}
+use Rattle.layouts.proofs.Refusals.{track-known, sector-known}
+use Rattle.request.specs.Refusals.{isWithin, cellOf, contentsTests, callTests, placeTests, requestTests}
+use Rattle.request.specs.Outcomes.{Requests, firstPlan}
 use Rattle.rewrite.specs.declared.Plan.{Plan}
-use Rattle.rewrite.specs.declared.Requested.the-variants as request
+use Rattle.request.specs.declared.Requested.the-variants as request
 use Rattle.verdicts.specs.Tests.{Verdict, passed, refused, refusal, by}
 use Rattle.verdicts.proofs.Tests.{clash, append-passed, passed-both, first-passed}
 use Rattle.walk.specs.Events.{blocks, located}
 use Rattle.walk.specs.Outcomes.{locateTests, met, found}
 use Rattle.walk.specs.declared.Block.{Block}
 use Rattle.walk.specs.declared.Block.the-variants.{Missing, Beyond, Within}
-use Rattle.walk.proofs.Passing.{sector-known}
 use Rattle.promises.specs.Rewriting.{Fit}
 
 -- A block that is located is the sector's only one.

@@ -13,7 +13,7 @@ use Rattle.layouts.specs.Refusals.{areaTest, readingTests}
 use Rattle.layouts.specs.Tracks.{trackOf}
 use Rattle.layouts.specs.declared.Layout.{Layout}
 use Rattle.layouts.specs.declared.Track.{Track}
-use Rattle.read.specs.Answers.{Sector, recordsOf, areaOf}
+use Rattle.read.specs.Records.{Sector, recordsOf, areaOf}
 use Rattle.read.specs.Outcomes.{readTests, readAnswer, readArea, Reads}
 use Rattle.read.specs.declared.Reading.{Reading}
 use Rattle.read.proofs.Recording.{length-sector}

@@ -18,7 +18,7 @@ use Rattle.search.proofs.Searching.{searchable, le-or-lt}
 use Rattle.search.proofs.Clash.{start, stands-clear}
 use Rattle.marks.specs.Marks.{markCells}
 use Rattle.search.specs.Search.{blockMarks}
-use Rattle.walk.specs.Walk.{blockCells}
+use Rattle.layouts.specs.Layouts.{blockCells}
 use Rattle.promises.proofs.rewriting.Searches.{sort, Alike}
 use Rattle.promises.proofs.rewriting.Marks.{stands-same, stands-start, start-same, stands-edge, block-searchable, block-sort, standing-same}
 use Rattle.promises.proofs.rewriting.Rounds.{Agrees}

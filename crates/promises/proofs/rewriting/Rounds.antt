@@ -16,7 +16,8 @@ use Rattle.search.specs.declared.Kinds.{Kinds}
 use Rattle.search.specs.declared.Found.the-variants.{At}
 use Rattle.search.proofs.Firsts.{first-known}
 use Rattle.search.specs.Search.{identifierMarks, eitherMarks}
-use Rattle.walk.specs.Walk.{reach, blockCells, edcRight, ours, round}
+use Rattle.walk.specs.Walk.{reach, edcRight, ours, round}
+use Rattle.layouts.specs.Layouts.{blockCells}
 use Rattle.walk.specs.declared.Block.the-variants.{Missing, Beyond, Within}
 use Rattle.walk.specs.declared.Event.the-variants.{Accepted}
 use Rattle.walk.specs.declared.Round.{Round}

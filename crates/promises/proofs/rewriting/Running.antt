@@ -12,7 +12,7 @@ use lib.ListN.{length, getD, length-set}
 use lib.Seq.{getD-set-other}
 use Rattle.cells.specs.Cells.{cell}
 use Rattle.cells.proofs.Joined.{cell-lt}
-use Rattle.layouts.specs.Layouts.{highest, layoutOf}
+use Rattle.layouts.specs.Layouts.{highest, layoutOf, blockCells}
 use Rattle.layouts.specs.Refusals.{imageTest, numberTest, areaTest, markTest}
 use Rattle.layouts.specs.Tracks.{trackOf}
 use Rattle.layouts.specs.declared.Layout.{Layout}
@@ -24,10 +24,10 @@ use Rattle.marks.specs.Marks.{markByte, markOf}
 use Rattle.search.specs.Search.{among, isStanding}
 use Rattle.marks.specs.declared.Mark.the-variants.{Control, Data}
 use Rattle.search.specs.Search.{blockMarks}
-use Rattle.walk.specs.Walk.{blockCells}
 use Rattle.walk.specs.Outcomes.{met}
 use Rattle.rewrite.specs.Stores.{stored, noStore, blockEnd, stores, storeCount}
-use Rattle.rewrite.specs.Refusals.{holdsBlock, blockTest, finishedTest, planTests, stepTests, contentsTests}
+use Rattle.rewrite.specs.Refusals.{holdsBlock, blockTest, finishedTest, planTests, stepTests}
+use Rattle.request.specs.Refusals.{contentsTests}
 use Rattle.rewrite.specs.Outcomes.{Steps, steppedNumber}
 use Rattle.promises.specs.Cuts.{cut}
 use Rattle.promises.specs.Rewriting.{Fit, inHand, Ran, begun, went, planAt, Stepwise}

@@ -1,5 +1,5 @@
 -- How every cut of an accepted rewrite reads: every other sector as before, and the sector itself by the number of stores that were made.
-use mathlib.Core.Path.{_≡_, refl, ap}
+use mathlib.Core.Path.{_≡_, ap}
 use mathlib.Core.Bool.{true}
 use mathlib.Core.List.{List}
 use Prim.Native.Nat.{ℕ, zero, suc, _*_, _<_, _≤_}
@@ -12,7 +12,7 @@ use Rattle.layouts.specs.declared.Layout.{Layout}
 use Rattle.layouts.specs.declared.Track.{Track}
 use Rattle.marks.specs.Marks.{markOf, stands}
 use Rattle.marks.specs.declared.Mark.the-variants.{Open}
-use Rattle.read.specs.Answers.{identifierRecord}
+use Rattle.read.specs.Records.{identifierRecord}
 use Rattle.rewrite.specs.Stores.{blockEnd, storeCount}
 use Rattle.rewrite.proofs.Counted.{count-least}
 use Rattle.walk.specs.Events.{bads, foreigns}

@@ -1,5 +1,5 @@
 -- The stores of a rewrite, one byte each: after every one of them the cells are those of the first image with a part of the block rewritten.
-use mathlib.Core.Path.{_≡_, refl, sym, ap, ap₂, _∙_}
+use mathlib.Core.Path.{_≡_, sym, ap, ap₂, _∙_}
 use mathlib.Core.Bool.{true}
 use mathlib.Core.List.{List}
 use mathlib.Core.Logic.{_⊎_, inl, inr, ⊎-elim, _≢_}
@@ -10,7 +10,7 @@ use lib.ListN.{length, getD, set}
 use lib.Seq.{getD-set-same, getD-set-other}
 use Rattle.cells.specs.Cells.{cell, octet}
 use Rattle.cells.specs.declared.Mode.{Mode}
-use Rattle.cells.specs.declared.Mode.the-variants.{Fm, Mfm}
+use Rattle.cells.specs.declared.Mode.the-variants.{Mfm}
 use Rattle.cells.proofs.Digits.{bits}
 use Rattle.cells.proofs.Joined.{cell-lt}
 use Rattle.marks.specs.Marks.{markLast, lastByte}
@@ -20,13 +20,12 @@ use Rattle.layouts.specs.declared.Layout.{Layout}
 use Rattle.marks.specs.Marks.{string, stands}
 use Rattle.search.specs.Search.{among}
 use Rattle.marks.specs.declared.Mark.{Mark}
-use Rattle.marks.specs.declared.Mark.the-variants.{Index, Identifier, Data, Control, Open}
 use Rattle.marks.proofs.Spelling.{stands-room}
 use Rattle.search.proofs.Searching.{le-or-lt}
 use Rattle.search.proofs.Clash.{start}
 use Rattle.marks.specs.Marks.{markCells}
 use Rattle.search.specs.Search.{blockMarks}
-use Rattle.walk.specs.Walk.{blockCells}
+use Rattle.layouts.specs.Layouts.{blockCells}
 use Rattle.promises.proofs.rewriting.Marks.{string-cells, start-cells, stands-same, stands-start, start-same, stands-made, block-searchable}
 use Rattle.promises.proofs.rewriting.Rewritten.{Rewritten}
 

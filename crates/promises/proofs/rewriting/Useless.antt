@@ -9,7 +9,7 @@ use Rattle.layouts.specs.Layouts.{layoutOf}
 use Rattle.layouts.specs.Tracks.{trackOf}
 use Rattle.marks.specs.Marks.{markByte}
 use Rattle.marks.specs.declared.Mark.the-variants.{Control}
-use Rattle.read.specs.Answers.{answerNumber}
+use Rattle.answers.specs.Answers.{answerNumber}
 use Rattle.rewrite.proofs.Counted.{count-least}
 use Rattle.promises.specs.Rewriting.{begun, number, planAt, after, Stepwise, NotAllAtOnce}
 use Rattle.promises.specs.Sectors.{sectorIn, readsBack, underWay, ReadsSo}

@@ -4,7 +4,6 @@ use mathlib.Core.List.{List, _∷_}
 use mathlib.Core.Logic.{inl, inr, ⊎-elim}
 use Prim.Native.Nat.{ℕ, zero, suc, _+_, _≤_}
 use native.Mathlib.Omega.{arith}
-use Rattle.layouts.specs.declared.Layout.{Layout}
 use Rattle.layouts.specs.declared.Track.{Track}
 use Rattle.search.specs.Search.{isStanding}
 use Rattle.marks.specs.declared.Mark.{Mark}
@@ -12,7 +11,8 @@ use Rattle.search.specs.declared.Found.the-variants.{At, Nothing}
 use Rattle.search.proofs.Firsts.{first-known}
 use Rattle.search.proofs.Searching.{le-or-lt}
 use Rattle.search.specs.Search.{eitherMarks}
-use Rattle.walk.specs.Walk.{reach, blockCells, round, follow, walk, events}
+use Rattle.walk.specs.Walk.{reach, round, follow, walk, events}
+use Rattle.layouts.specs.Layouts.{blockCells}
 use Rattle.walk.specs.declared.Event.{Event}
 use Rattle.walk.specs.declared.Round.{Round}
 use Rattle.walk.specs.declared.Round.the-variants.{Ends, Meets}

@@ -9,7 +9,7 @@ use Rattle.cells.specs.Cells.{cell}
 use Rattle.layouts.specs.declared.Track.{Track}
 use Rattle.layouts.proofs.Refusals.{told-passed, answer-refused, answer-passed}
 use Rattle.walk.specs.Outcomes.{met}
-use Rattle.read.specs.Answers.{areaOf}
+use Rattle.read.specs.Records.{areaOf}
 use Rattle.read.specs.Outcomes.{reading, refusedReading, readAnswer, readArea}
 use Rattle.read.proofs.Passing.{modest, read-known, area-whole}
 use Rattle.read.proofs.read.Statement.{statement}
@@ -26,6 +26,9 @@ enum-known-tested c = search needs
 
 enum-told : tie.Need-enum-told
 enum-told c = search needs
+
+unread-records-requires : tie.Need-unread-records-requires
+unread-records-requires c κs = search needs
 
 track-of-requires : tie.Need-track-of-requires
 track-of-requires c κs = search needs
@@ -50,13 +53,13 @@ same-length c = search needs
 returns : tie.Need-returns
 unfolding readAnswer readArea
 returns c =
-    let cleared = c .before .before .before .before .before in
+    let cleared = c .before .before .before .before .before .before in
     let tested = cleared .before .before in
     let told = tested .read-tested .ensures in
     let given = length (now (tested .before .before .before .args .area)) in
-    let refuses = c .before .tested .given .1 in
+    let refuses = c .before .before .tested .given .1 in
     record {
-      answers = answer-refused _ refusedReading _ _ told _ refuses;
+      answers = rw (c .unread-records .ensures) (answer-refused _ refusedReading _ _ told _ refuses);
       leaves = cleared .clear .ensures ∙ answer-refused _ (λ f. replicate given 0) _ _ told _ refuses;
     }
 
@@ -87,6 +90,7 @@ read-spec =
     read-tested-requires
     clear-requires
     enum-known-tested
+    unread-records-requires
     enum-told
     track-of-requires
     read-track-requires

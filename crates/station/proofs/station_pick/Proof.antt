@@ -3,7 +3,7 @@ use mathlib.Core.Path.{ap, ap₂, _∙_}
 use denote.Ref.{now}
 use lib.ListN.{length}
 use Rattle.layouts.specs.Layouts.{layoutOf}
-use Rattle.read.specs.Picks.{chosenOf}
+use Rattle.pick.specs.Picks.{chosenOf}
 use Rattle.station.specs.Picks.{pickNumber, partOf}
 use Rattle.station.proofs.Picking.{chosen-known}
 use borrow.Author.Needs.{needs}

@@ -1,6 +1,8 @@
 -- `station_read` meets its contract: what `read` answers, in numbers.
 use mathlib.Core.Path.{ap, _∙_}
 use mathlib.Core.List.{[], _∷_}
+use Rattle.layouts.specs.Refusals.{checkedNumber}
+use Rattle.layouts.proofs.Refusals.{number-told}
 use Rattle.read.specs.declared.Reading.{Reading}
 use Rattle.station.specs.Records.{recordList}
 use Rattle.station.proofs.Passes.{read-told}
@@ -14,8 +16,8 @@ read-requires c κs = search needs
 list-of-requires : tie.Need-list-of-requires
 list-of-requires c κs = search needs
 
-verdict-number-requires : tie.Need-verdict-number-requires
-verdict-number-requires c κs = search needs
+checked-number-requires : tie.Need-checked-number-requires
+checked-number-requires c κs = search needs
 
 same-length : tie.Need-same-length
 same-length c = search needs
@@ -25,7 +27,7 @@ returns c =
     let listed = c .before .before in
     let r = listed .before .before .before .read .ensures in
     record {
-      numbered = c .verdict-number .ensures _ (ap (λ (x : Reading). x .verdict) (r .answers) ∙ read-told _ _ _ _ _);
+      numbered = c .checked-number .ensures ∙ ap (λ (x : Reading). checkedNumber (x .verdict)) (r .answers) ∙ ap checkedNumber (read-told _ _ _ _ _) ∙ number-told _;
       leaves = r .leaves;
       answered = listed .list-of .ensures ∙ ap (λ (x : Reading). recordList (x .sectors) (x .records .list)) (r .answers);
       counted = ap (λ (x : Reading). x .bad ∷ x .foreign ∷ []) (r .answers);
@@ -37,6 +39,6 @@ station-read-spec =
     (tie.spec
     read-requires
     list-of-requires
-    verdict-number-requires
+    checked-number-requires
     same-length
     returns)

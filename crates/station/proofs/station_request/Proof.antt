@@ -2,8 +2,8 @@
 use mathlib.Core.Path.{ap, _∙_}
 use denote.Ref.{now}
 use lib.ListN.{length}
-use Rattle.rewrite.specs.Outcomes.{requestedNumber}
-use Rattle.rewrite.specs.declared.Requested.{Requested}
+use Rattle.request.specs.Outcomes.{requestedNumber}
+use Rattle.request.specs.declared.Requested.{Requested}
 use Rattle.station.specs.Outcomes.{noted}
 use borrow.Author.Needs.{needs}
 use Rattle.station.proofs.station_request.Statement.{statement}

@@ -2,7 +2,7 @@
 use mathlib.Core.Path.{refl, ap}
 use Prim.Native.Nat.{ℕ, _*_}
 use Rattle.marks.specs.declared.Mark.the-variants as marks
-use Rattle.read.specs.declared.Answer.the-variants.{Data, Control}
+use Rattle.answers.specs.declared.Answer.the-variants.{Data, Control}
 use Rattle.read.proofs.Answering.{block-open, is-control, is-data, block-decided}
 use borrow.Author.Needs.{needs}
 use Rattle.read.proofs.blocks.block_record.Statement.{statement}

@@ -1,7 +1,7 @@
 -- `identifier_record` meets its contract, block by block.
 use mathlib.Core.Path.{subst}
 use Rattle.walk.specs.Turns.{Placed}
-use Rattle.read.specs.declared.Fault.the-variants.{NoBlock, PastEnd}
+use Rattle.answers.specs.declared.Fault.the-variants.{NoBlock, PastEnd}
 use Rattle.read.proofs.Answering.{gives-same, gives-refused, is-missing, is-beyond, is-within}
 use borrow.Author.Needs.{needs}
 use Rattle.read.proofs.blocks.identifier_record.Statement.{statement}

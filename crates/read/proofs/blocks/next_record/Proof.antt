@@ -1,5 +1,5 @@
 -- `next_record` meets its contract: the first identifier decides, a second one doubles.
-use Rattle.read.specs.declared.Fault.the-variants.{Doubled}
+use Rattle.answers.specs.declared.Fault.the-variants.{Doubled}
 use Rattle.read.proofs.Answering.{gives-same, gives-refused, is-first, is-more}
 use borrow.Author.Needs.{needs}
 use Rattle.read.proofs.blocks.next_record.Statement.{statement}

@@ -1,7 +1,7 @@
 -- `enter` meets its contract: the sector's part of the area is lent to `next_record`.
 use native.Mathlib.Omega.{arith}
 use Rattle.read.proofs.Recording.{slot-put}
-use Rattle.read.proofs.Sectors.{slot-room}
+use Rattle.layouts.proofs.Layouts.{slot-room}
 use borrow.Author.Needs.{needs}
 use Rattle.read.proofs.tracks.enter.Statement.{statement}
 use Rattle.read.proofs.tracks.enter.Tie as tie

@@ -6,9 +6,11 @@ use native.Mathlib.Omega.{arith}
 use denote.Ref.{now}
 use lib.ListN.{length, set, length-replicate}
 use Rattle.cells.specs.Cells.{cell}
+use Rattle.layouts.specs.Layouts.{mostSectors}
 use Rattle.walk.specs.Walk.{walk}
 use Rattle.walk.specs.Outcomes.{met}
-use Rattle.read.specs.Outcomes.{unread}
+use Rattle.walk.specs.Turns.{Placed}
+use Rattle.answers.specs.Answers.{unread}
 use Rattle.read.proofs.States.{State, state-start, state-left, state-bad, state-foreign, state-accepted, state-end}
 use Rattle.walk.proofs.Walking.{walk-past, walk-ends, walk-all, turn-left, turn-onward, turn-accepted}
 use Rattle.read.proofs.tracks.read_track.Statement.{statement}
@@ -24,13 +26,28 @@ abbrev μ-loop : tie.MeasureT-loop
 μ-loop track image area₀ records₀ bad₀ foreign₀ place₀ end area records bad foreign place =
     8 * length image - place
 
+-- What is known of an accepted identifier: its sector is one of the track's, and its block has a place.
+known : (c : tie.After-event Inv-loop μ-loop)
+    → let sector = c .event .given .0 .0 in
+    let l = c .before .before .before .before .before .before .before .before .before .before .before .args .track .layout in
+    (1 ≤ sector) × (sector ≤ l .sectors) × Placed (c .event .given .0 .1 .0) × (l .sectors ≤ mostSectors)
+known c =
+    let ran = c .before .before .before .before .before in
+    let started = ran .before .before .before .before .before .before in
+    let few : 8 * length (now (started .args .image)) ≤ 2147483648 = omega (arith, started .pre .0) in
+    let k = turn-accepted _ _ _ _ _ _ _ _ _ (ran .next-round .ensures) (c .before .before .before .round .given .1) (c .event .given .1) few in
+    (k .0, k .1, k .2, started .pre .1 .1)
+
+unread-records-requires : tie.Need-unread-records-requires Inv-loop μ-loop
+unread-records-requires c κs = search needs
+
 mul-end : tie.Need-mul-end Inv-loop μ-loop
 mul-end c = search needs
 
 loop-holds : tie.Need-loop-holds Inv-loop μ-loop
 loop-holds c =
-    let s = c .before .before .pre in
-    (search needs, search needs, ap length (s .2) ∙ length-replicate _ 0, state-start _ _ _ _ _ _ (walk-all _ _ _) (s .2))
+    let s = c .before .before .before .pre in
+    (search needs, search needs, ap length (s .2) ∙ length-replicate _ 0, rw (c .unread-records .ensures) (state-start _ _ _ _ _ _ (walk-all _ _ _) (s .2)))
 
 next-round-requires : tie.Need-next-round-requires Inv-loop μ-loop
 next-round-requires c κs = search needs
@@ -70,66 +87,41 @@ enum-known-event c = search needs
 
 sub-before : tie.Need-sub-before Inv-loop μ-loop
 sub-before c =
-    let accepted = c .before in
-    let ran = accepted .before .before .before .before .before in
-    let s = ran .before .before .before .before .before .pre in
-    let few : 8 * length (now (ran .before .before .before .before .before .args .image)) ≤ 2147483648 = omega (arith, s .0) in
-    let k = turn-accepted _ _ _ _ _ _ _ _ _ (ran .next-round .ensures) (accepted .before .before .before .round .given .1) (accepted .event .given .1) few in
+    let k = known (c .before) in
     k .0
 
 mul-before : tie.Need-mul-before Inv-loop μ-loop
 mul-before c =
-    let accepted = c .before in
-    let ran = accepted .before .before .before .before .before in
-    let s = ran .before .before .before .before .before .pre in
-    let few : 8 * length (now (ran .before .before .before .before .before .args .image)) ≤ 2147483648 = omega (arith, s .0) in
-    let k = turn-accepted _ _ _ _ _ _ _ _ _ (ran .next-round .ensures) (accepted .before .before .before .round .given .1) (accepted .event .given .1) few in
-    omega (arith, k .1, s .1 .1)
+    let k = known (c .before) in
+    omega (arith, k .1, k .3)
 
 element-copy-out-before : tie.Need-element-copy-out-before Inv-loop μ-loop
 element-copy-out-before c =
-    let accepted = c .before in
-    let ran = accepted .before .before .before .before .before in
-    let s = ran .before .before .before .before .before .pre in
-    let few : 8 * length (now (ran .before .before .before .before .before .args .image)) ≤ 2147483648 = omega (arith, s .0) in
-    let k = turn-accepted _ _ _ _ _ _ _ _ _ (ran .next-round .ensures) (accepted .before .before .before .round .given .1) (accepted .event .given .1) few in
-    omega (arith, k .0, k .1, s .1 .1)
+    let k = known (c .before) in
+    omega (arith, k .0, k .1, k .3)
 
 enter-requires : tie.Need-enter-requires Inv-loop μ-loop
 enter-requires c κs =
     let accepted = c .before .before .before in
     let ran = accepted .before .before .before .before .before in
-    let s = ran .before .before .before .before .before .pre in
-    let few : 8 * length (now (ran .before .before .before .before .before .args .image)) ≤ 2147483648 = omega (arith, s .0) in
-    let k = turn-accepted _ _ _ _ _ _ _ _ _ (ran .next-round .ensures) (accepted .before .before .before .round .given .1) (accepted .event .given .1) few in
+    let s = ran .before .before .before .before .before .before .pre in
+    let k = known accepted in
     (s .0, s .1, k .0, k .1, k .2, ran .before .before .loop .inv .2)
 
 sub-after : tie.Need-sub-after Inv-loop μ-loop
 sub-after c =
-    let accepted = c .before .before .before .before .before .before in
-    let ran = accepted .before .before .before .before .before in
-    let s = ran .before .before .before .before .before .pre in
-    let few : 8 * length (now (ran .before .before .before .before .before .args .image)) ≤ 2147483648 = omega (arith, s .0) in
-    let k = turn-accepted _ _ _ _ _ _ _ _ _ (ran .next-round .ensures) (accepted .before .before .before .round .given .1) (accepted .event .given .1) few in
+    let k = known (c .before .before .before .before .before .before) in
     k .0
 
 mul-after : tie.Need-mul-after Inv-loop μ-loop
 mul-after c =
-    let accepted = c .before .before .before .before .before .before in
-    let ran = accepted .before .before .before .before .before in
-    let s = ran .before .before .before .before .before .pre in
-    let few : 8 * length (now (ran .before .before .before .before .before .args .image)) ≤ 2147483648 = omega (arith, s .0) in
-    let k = turn-accepted _ _ _ _ _ _ _ _ _ (ran .next-round .ensures) (accepted .before .before .before .round .given .1) (accepted .event .given .1) few in
-    omega (arith, k .1, s .1 .1)
+    let k = known (c .before .before .before .before .before .before) in
+    omega (arith, k .1, k .3)
 
 element-set-from-after : tie.Need-element-set-from-after Inv-loop μ-loop
 element-set-from-after c =
-    let accepted = c .before .before .before .before .before .before in
-    let ran = accepted .before .before .before .before .before in
-    let s = ran .before .before .before .before .before .pre in
-    let few : 8 * length (now (ran .before .before .before .before .before .args .image)) ≤ 2147483648 = omega (arith, s .0) in
-    let k = turn-accepted _ _ _ _ _ _ _ _ _ (ran .next-round .ensures) (accepted .before .before .before .round .given .1) (accepted .event .given .1) few in
-    omega (arith, k .0, k .1, s .1 .1)
+    let k = known (c .before .before .before .before .before .before) in
+    omega (arith, k .0, k .1, k .3)
 
 loop-less-2 : tie.Need-loop-less-2 Inv-loop μ-loop
 loop-less-2 c =
@@ -172,9 +164,7 @@ loop-again-4 : tie.Need-loop-again-4 Inv-loop μ-loop
 loop-again-4 c =
     let accepted = c .before .before .before .before .before .before in
     let ran = accepted .before .before .before .before .before in
-    let s = ran .before .before .before .before .before .pre in
-    let few : 8 * length (now (ran .before .before .before .before .before .args .image)) ≤ 2147483648 = omega (arith, s .0) in
-    let k = turn-accepted _ _ _ _ _ _ _ _ _ (ran .next-round .ensures) (accepted .before .before .before .round .given .1) (accepted .event .given .1) few in
+    let k = known accepted in
     let l = ran .before .before .loop in
     let o = turn-onward _ _ _ _ _ _ _ _ (ran .next-round .ensures) (accepted .before .before .before .round .given .1) (accepted .event .given .1) in
     let e = c .before .before .enter in
@@ -183,11 +173,11 @@ loop-again-4 c =
       o .1,
       omega (arith, o .0, l .inv .1),
       e .kept .1 .1 .1 .1 .1 .0 ∙ l .inv .2,
-      state-accepted _ _ _ (l .inv .3) _ _ unread left (s .1 .1) (k .0) (k .1) (ap (λ x. set (l .records .list) (accepted .event .given .0 .0 - 1) x) (e .ensures .0)) (e .ensures .1),
+      state-accepted _ _ _ (l .inv .3) _ _ unread left (k .3) (k .0) (k .1) (ap (λ x. set (l .records .list) (accepted .event .given .0 .0 - 1) x) (e .ensures .0)) (e .ensures .1),
     )
 
 same-length : tie.Need-same-length Inv-loop μ-loop
-same-length c = c .before .before .loop .inv .2 ∙ sym (ap length (c .before .before .before .before .before .pre .2) ∙ length-replicate _ 0)
+same-length c = c .before .before .loop .inv .2 ∙ sym (ap length (c .before .before .before .before .before .before .pre .2) ∙ length-replicate _ 0)
 
 returns : tie.Need-returns Inv-loop μ-loop
 returns c =
@@ -201,6 +191,7 @@ read-track-spec =
     (tie.spec
     Inv-loop
     μ-loop
+    unread-records-requires
     mul-end
     loop-holds
     next-round-requires

@@ -1,13 +1,10 @@
 -- `list_of` meets its contract: what is left to list from index i on ends where the whole does.
 use borrow.Author.Needs.{needs}
 use mathlib.Core.Path.{_≡_, refl, sym, _∙_}
-use mathlib.Core.List.{List}
-use Prim.Native.Nat.{ℕ, _-_, _*_, _<_, _≤_}
-use native.Mathlib.Omega.{arith}
+use Prim.Native.Nat.{_-_, _*_, _≤_}
 use lib.ListN.{replicate}
 use lib.Seq.{sets}
 use Rattle.layouts.specs.Layouts.{mostSectors}
-use Rattle.read.specs.declared.Record.{Record}
 use Rattle.station.specs.Records.{recordWidth, recordList}
 use Rattle.station.proofs.Listing.{left, listed-turn, listed-end, listed-whole}
 use Rattle.station.proofs.records.list_of.Statement.{statement}

@@ -5,8 +5,8 @@ use native.Mathlib.Omega.{arith}
 use denote.Ref.{now}
 use lib.ListN.{getD}
 use Rattle.layouts.specs.Layouts.{mostSectors}
-use Rattle.read.specs.Answers.{answerOf}
-use Rattle.read.specs.declared.Answer.{Answer}
+use Rattle.answers.specs.Answers.{answerOf}
+use Rattle.answers.specs.declared.Answer.{Answer}
 use Rattle.station.specs.Records.{recordWidth, numberedRecord}
 use Rattle.station.proofs.Listing.{slot-first, slot-past}
 use borrow.Author.Needs.{needs}

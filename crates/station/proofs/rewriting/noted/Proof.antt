@@ -1,6 +1,6 @@
 -- `noted` meets its contract: the plan's numbers, or zeros.
 use mathlib.Core.Path.{sym, ap, _∙_}
-use Rattle.rewrite.specs.declared.Requested.{Requested}
+use Rattle.request.specs.declared.Requested.{Requested}
 use Rattle.station.specs.Outcomes.{noted}
 use borrow.Author.Needs.{needs}
 use Rattle.station.proofs.rewriting.noted.Statement.{statement}

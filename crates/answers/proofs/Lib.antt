@@ -1,0 +1,2 @@
+-- the papers' numbers of the answers
+pub mod Numbering

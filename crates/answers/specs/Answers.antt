@@ -1,0 +1,63 @@
+-- What a sector answers, and the papers' numbers of it (01, "How a track is read").
+use mathlib.Core.Bool.{Bool, true, false, cond}
+use mathlib.Core.List.{List, [], _∷_}
+use Prim.Native.Nat.{ℕ}
+use lib.Dec.{eqb}
+use lib.ListN.{replicate}
+use Rattle.layouts.specs.Layouts.{mostSectors}
+use Rattle.answers.specs.declared.Fault.{Fault}
+use Rattle.answers.specs.declared.Fault.the-variants.{NoIdentifier, Doubled, NoBlock, PastEnd, OpenMark, WrongEdc}
+use Rattle.answers.specs.declared.Answer.{Answer}
+use Rattle.answers.specs.declared.Answer.the-variants.{Data, Control, Refused}
+use Rattle.answers.specs.declared.Record.{Record}
+use Rattle.answers.specs.declared.Records.{Records}
+
+-- The number of a fault (01, "How a track is read").
+abbrev pub faultNumber : Fault → ℕ
+faultNumber NoIdentifier = 21
+faultNumber Doubled = 22
+faultNumber NoBlock = 23
+faultNumber PastEnd = 24
+faultNumber OpenMark = 25
+faultNumber WrongEdc = 26
+
+-- The number of an answer.
+abbrev pub answerNumber : Answer → ℕ
+answerNumber (Refused fault) = faultNumber fault
+answerNumber Data = 1
+answerNumber Control = 2
+
+-- The answers that have numbers of their own; any other number counts as 21.
+abbrev pub answers : List Answer
+answers =
+    Data
+    ∷ Control
+    ∷ Refused Doubled
+    ∷ Refused NoBlock
+    ∷ Refused PastEnd
+    ∷ Refused OpenMark
+    ∷ Refused WrongEdc
+    ∷ []
+
+-- The answer among these that has the number; where none has it, 21: no accepted identifier.
+abbrev pub answerAmong : List Answer → ℕ → Answer
+answerAmong [] number = Refused NoIdentifier
+answerAmong (answer ∷ more) number = cond (eqb number (answerNumber answer)) answer (answerAmong more number)
+
+-- The answer that has the number (the law `answer-back`).
+unfoldable pub answerOf : ℕ → Answer
+answerOf = answerAmong answers
+
+-- An answer carries the sector's bytes.
+abbrev pub carries : Answer → Bool
+carries (Refused fault) = false
+carries Data = true
+carries Control = true
+
+-- The record of a sector of which nothing is known; also what the logic reads past an array's end, where no index reaches.
+abbrev pub unread : Record
+unread = record { answer = Refused NoIdentifier }
+
+-- The records of a track of which nothing is known.
+abbrev pub unreadRecords : Records
+unreadRecords = record { list = replicate mostSectors unread }

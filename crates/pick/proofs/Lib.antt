@@ -1,0 +1,2 @@
+-- what is known of a pick that its tests pass
+pub mod Picking

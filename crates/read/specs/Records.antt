@@ -1,0 +1,87 @@
+-- What reading answers, as functions of what the walk meets and of the cells: what is known of each sector, its record and its slot
+-- (01, "How a track is read").
+use mathlib.Core.Bool.{cond}
+use mathlib.Core.List.{List, [], _∷_, _++_, map}
+use Prim.Native.Nat.{ℕ, _+_}
+use lib.Dec.{leb}
+use lib.ListN.{replicate}
+use Rattle.cells.specs.Cells.{dataBytes}
+use Rattle.layouts.specs.Layouts.{mostSectors, numbers}
+use Rattle.layouts.specs.declared.Track.{Track}
+use Rattle.marks.specs.Marks.{markCells, stands}
+use Rattle.marks.specs.declared.Mark.{Mark}
+use Rattle.marks.specs.declared.Mark.the-variants as marks
+use Rattle.walk.specs.Walk.{edcRight}
+use Rattle.walk.specs.Events.{blocks}
+use Rattle.walk.specs.declared.Block.{Block}
+use Rattle.walk.specs.declared.Block.the-variants.{Missing, Beyond, Within}
+use Rattle.walk.specs.declared.Event.{Event}
+use Rattle.answers.specs.declared.Fault.{Fault}
+use Rattle.answers.specs.declared.Fault.the-variants.{NoIdentifier, Doubled, NoBlock, PastEnd, OpenMark, WrongEdc}
+use Rattle.answers.specs.declared.Answer.{Answer}
+use Rattle.answers.specs.declared.Answer.the-variants.{Data, Control, Refused}
+use Rattle.answers.specs.declared.Record.{Record}
+
+-- What is known of a sector: its record, and what its slot holds.
+pub record Sector : Type 0 where
+  pub known : Record
+  pub slot : List ℕ
+
+-- What each of these sectors has, one behind the other.
+unfoldable pub slots : (ℕ → List ℕ) → List ℕ → List ℕ
+slots f [] = []
+slots f (s ∷ ss) = f s ++ slots f ss
+
+module _ (size : ℕ) where
+  -- What an answer leaves in the slot, of size bytes, of a block with these bytes: the bytes, or zeros.
+  abbrev pub slotOf : Answer → List ℕ → List ℕ
+  slotOf (Refused fault) bytes = replicate size 0
+  slotOf Data bytes = bytes
+  slotOf Control bytes = bytes
+
+  -- The sector with an answer, of a block with these bytes.
+  abbrev pub answering : Answer → List ℕ → Sector
+  answering answer bytes = record { known = record { answer = answer }; slot = slotOf answer bytes }
+
+  -- The sector that is refused with a fault. It has no bytes.
+  abbrev pub refused : Fault → Sector
+  refused fault = answering (Refused fault) []
+
+module _ (t : Track) (c : ℕ → ℕ) (n : ℕ) where
+  -- What the block at m answers after a data or a control mark: its answer if the EDC is right.
+  unfoldable pub proved : Mark → Answer → ℕ → Answer
+  proved mark good m = cond (edcRight (t .layout .mode) c mark (m + markCells (t .layout .mode)) (t .layout .size + 2)) good (Refused WrongEdc)
+
+  -- The answer of the block at m by itself. A data, control or open mark stands at m; an open mark's EDC is not looked at.
+  unfoldable pub blockAnswer : ℕ → Answer
+  blockAnswer m =
+      cond (stands (t .layout .mode) c n marks.Open m) (Refused OpenMark)
+      (cond (stands (t .layout .mode) c n marks.Control m) (proved marks.Control Control m) (proved marks.Data Data m))
+
+  -- Its N data bytes.
+  unfoldable pub blockBytes : ℕ → List ℕ
+  blockBytes m = dataBytes c (m + markCells (t .layout .mode)) (t .layout .size)
+
+  -- What one accepted identifier makes of its sector.
+  unfoldable pub identifierRecord : Block → Sector
+  identifierRecord Missing = refused (t .layout .size) NoBlock
+  identifierRecord (Beyond m) = refused (t .layout .size) PastEnd
+  identifierRecord (Within m) = answering (t .layout .size) (blockAnswer m) (blockBytes m)
+
+  -- What a sector is, by what its accepted identifiers gave.
+  unfoldable pub recordFor : List Block → Sector
+  recordFor [] = refused (t .layout .size) NoIdentifier
+  recordFor (b ∷ []) = identifierRecord b
+  recordFor (b ∷ x ∷ bs) = refused (t .layout .size) Doubled
+
+  -- Sector s, by what the walk met. One past the layout's count is not there: it is refused with 21.
+  unfoldable pub sectorOf : List Event → ℕ → Sector
+  sectorOf es s = cond (leb s (t .layout .sectors)) (recordFor (blocks s es)) (refused (t .layout .size) NoIdentifier)
+
+  -- The records, by sector number.
+  unfoldable pub recordsOf : List Event → List Record
+  recordsOf es = map (λ s. sectorOf es s .known) (numbers mostSectors 1)
+
+  -- The area that is lent to the read: the slots of the sectors, one behind the other.
+  unfoldable pub areaOf : List Event → List ℕ
+  areaOf es = slots (λ s. sectorOf es s .slot) (numbers (t .layout .sectors) 1)

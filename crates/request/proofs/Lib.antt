@@ -1,0 +1,2 @@
+-- what a request comes to
+pub mod Noting
