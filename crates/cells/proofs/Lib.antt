@@ -6,8 +6,6 @@ pub mod Table
 pub mod Digits
 -- two bytes joined and shifted are the octet, two octets the data byte
 pub mod Joined
--- what is coded is read back
-pub mod Coding
 -- stores into a list, one behind the other
 pub mod Stores
 -- data bytes one behind the other, and lists of bytes

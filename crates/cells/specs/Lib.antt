@@ -2,7 +2,5 @@
 
 -- the cells of an image, and what eight or sixteen of them hold
 pub mod Cells
--- how a data byte is coded
-pub mod Coding
 -- what each public function promises
 pub mod Outcomes

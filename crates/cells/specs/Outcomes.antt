@@ -4,9 +4,6 @@ use mathlib.Core.Path.{_≡_}
 use mathlib.Core.List.{List}
 use lib.ListN.{replicate}
 use Rattle.cells.specs.Cells.{cell, octet, dataByte, dataBytes}
-use Rattle.cells.specs.Coding.{codedByte}
-use Rattle.cells.specs.declared.Mode.{Mode}
-use Rattle.cells.specs.declared.Pair.{Pair}
 
 -- `octet` answers the eight cells from a place on.
 abbrev pub IsOctet : List ℕ → ℕ → ℕ → Type 0
@@ -23,7 +20,3 @@ AreDataBytes image place room exit = exit ≡ dataBytes (cell image) place room
 -- `clear` leaves the area filled with zeros.
 abbrev pub AreZeros : ℕ → List ℕ → Type 0
 AreZeros room exit = exit ≡ replicate room 0
-
--- `coded` answers the two image bytes of a byte after the bit before it.
-abbrev pub IsCoded : Mode → ℕ → ℕ → Pair → Type 0
-IsCoded mode before byte answer = answer ≡ codedByte mode before byte

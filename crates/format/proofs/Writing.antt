@@ -6,10 +6,10 @@ use native.Mathlib.Numerals.{add-one}
 use native.Mathlib.Omega.{arith}
 use lib.ListN.{length, getD, drop, drop-of-length-le, set}
 use lib.Seq.{sets, drop-cons}
-use Rattle.cells.specs.Coding.{high, low, codedByte}
+use Rattle.coding.specs.Coding.{high, low, codedByte}
 use Rattle.cells.specs.declared.Mode.{Mode}
 use Rattle.cells.specs.declared.Mode.the-variants.{Fm, Mfm}
-use Rattle.cells.specs.declared.Pair.{Pair}
+use Rattle.coding.specs.declared.Pair.{Pair}
 use Rattle.edc.specs.Register.{bytesEntered, edcOf, edcBytes}
 use Rattle.marks.specs.Marks.{string, lastBit, markBytes, covered, registerAfter}
 use Rattle.marks.specs.declared.Mark.{Mark}

@@ -3,7 +3,7 @@
 use mathlib.Core.List.{List, [], _∷_, _++_}
 use Prim.Native.Nat.{ℕ, zero, suc, _-_, _%_, _≤_}
 use lib.ListN.{getD}
-use Rattle.cells.specs.Coding.{high, low}
+use Rattle.coding.specs.Coding.{high, low}
 use Rattle.cells.specs.declared.Mode.{Mode}
 use Rattle.edc.specs.Register.{edcOf, edcBytes}
 use Rattle.layouts.specs.Layouts.{gapByte, slotIn}

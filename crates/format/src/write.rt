@@ -1,6 +1,6 @@
 // The fields of a track. Each function writes its field from the image byte `at` on and leaves every other byte.
 use cells::Mode;
-use cells::Pair;
+use coding::Pair;
 use marks::Mark;
 ghost use mathlib.Core.Path.{_≡_};
 ghost use mathlib.Core.List.{[], _∷_, _++_};
@@ -37,8 +37,8 @@ pub(crate) fn write_run(
     if count == 0 {
         return at;
     }
-    write_pair(area, at, cells::coded(mode, before, byte));
-    let pair = cells::coded(mode, byte % 2, byte);
+    write_pair(area, at, coding::coded(mode, before, byte));
+    let pair = coding::coded(mode, byte % 2, byte);
     let mut i = 1;
     while i < count {
         write_pair(area, at + 2 * i, pair);
@@ -96,14 +96,14 @@ fn write_checked(mode: Mode, mark: Mark, contents: &[u8], area: &mut [u8], at: u
     let mut i = 0;
     while i < contents.len() {
         let byte = contents[i];
-        write_pair(area, at + 2 * i, cells::coded(mode, last % 2, byte));
+        write_pair(area, at + 2 * i, coding::coded(mode, last % 2, byte));
         last = byte;
         i += 1;
     }
     let upper = (register / 256) as u8;
     let lower = (register % 256) as u8;
-    write_pair(area, at + 2 * i, cells::coded(mode, last % 2, upper));
-    write_pair(area, at + 2 * i + 2, cells::coded(mode, upper % 2, lower));
+    write_pair(area, at + 2 * i, coding::coded(mode, last % 2, upper));
+    write_pair(area, at + 2 * i + 2, coding::coded(mode, upper % 2, lower));
     lower % 2
 }
 

@@ -31,11 +31,12 @@ use Rattle.request.specs.declared.Requested.the-variants as request
 use Rattle.rewrite.specs.declared.Stepped.the-variants as step
 use Rattle.verdicts.specs.Tests.{Test, Verdict, passed, refused, refusal, by}
 use Rattle.verdicts.proofs.Tests.{clash, exactly, by-passed, by-refused, by-map}
-use Rattle.walk.specs.Events.{blocks, located}
-use Rattle.walk.specs.Outcomes.{met, locatedNumber}
+use Rattle.walk.specs.Events.{blocks}
+use Rattle.locate.specs.Outcomes.{located, locatedNumber}
+use Rattle.walk.specs.Outcomes.{met}
 use Rattle.walk.specs.declared.Block.{Block}
 use Rattle.walk.specs.declared.Block.the-variants.{Missing, Beyond, Within}
-use Rattle.walk.specs.declared.Located.the-variants as locate
+use Rattle.locate.specs.declared.Located.the-variants as locate
 use lib.Dec.{leb}
 use Rattle.promises.specs.Reading.{NothingOldShows, RefusedLeavesZeros, RefusedSlotsAreZero, RefusedSectorsLeaveZeros, OfOnePass, PartOfOnePass}
 use Rattle.promises.specs.Refusing.{NumbersApart, RefusedBy, FormatRefuses, ReadRefuses, LocateRefuses, PickRefuses, RequestRefuses, StepRefuses}

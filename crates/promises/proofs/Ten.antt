@@ -23,12 +23,13 @@ use Rattle.request.specs.Refusals.{isWithin, boundaryTest, callTests, placeTest
 use Rattle.request.specs.declared.Requested.the-variants as request
 use Rattle.verdicts.specs.Tests.{Verdict, passed, refused, refusal, by}
 use Rattle.verdicts.proofs.Tests.{clash, append-passed, passed-both, first-passed}
-use Rattle.walk.specs.Events.{blocks, located}
-use Rattle.walk.specs.Outcomes.{met, locateTests}
+use Rattle.walk.specs.Events.{blocks}
+use Rattle.locate.specs.Outcomes.{located, locateTests}
+use Rattle.walk.specs.Outcomes.{met}
 use Rattle.walk.specs.Walk.{edcRight}
 use Rattle.walk.specs.declared.Block.{Block}
 use Rattle.walk.specs.declared.Block.the-variants.{Missing, Beyond, Within}
-use Rattle.walk.specs.declared.Located.{Located}
+use Rattle.locate.specs.declared.Located.{Located}
 use Rattle.layouts.proofs.Refusals.{sector-known}
 use Rattle.promises.specs.Refusing.{Unreadable, TenAsRead}
 

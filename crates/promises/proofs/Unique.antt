@@ -2,7 +2,8 @@
 use mathlib.Core.List.{List}
 use mathlib.Core.Path.{_≡_, sym, ap₂, _∙_}
 use Prim.Native.Nat.{ℕ}
-use Rattle.cells.specs.Outcomes.{IsOctet, IsDataByte, AreDataBytes, AreZeros, IsCoded}
+use Rattle.cells.specs.Outcomes.{IsOctet, IsDataByte, AreDataBytes, AreZeros}
+use Rattle.coding.specs.Outcomes.{IsCoded}
 use Rattle.cells.specs.declared.Mode.{Mode}
 use Rattle.edc.specs.Outcomes.{IsByteEntered, IsBytesEntered, IsEdc}
 use Rattle.format.specs.Outcomes.{Formats}
@@ -18,7 +19,8 @@ use Rattle.search.specs.declared.Kinds.{Kinds}
 use Rattle.answers.specs.Outcomes.{AreUnread, IsFaultNumber, IsAnswerNumber, IsAnswerOf, TellsCarrying}
 use Rattle.read.specs.Outcomes.{Reads}
 use Rattle.search.specs.Outcomes.{TellsBlock, IsMarkAt, IsFirstMark}
-use Rattle.walk.specs.Outcomes.{IsRound, Locates}
+use Rattle.walk.specs.Outcomes.{IsRound}
+use Rattle.locate.specs.Outcomes.{Locates}
 use Rattle.layouts.specs.declared.Track.{Track}
 use Rattle.pick.specs.Picks.{IsChosen, IsPicked, IsStretch}
 use Rattle.answers.specs.declared.Record.{Record}

@@ -25,8 +25,8 @@ use Rattle.rewrite.specs.declared.Plan.{Plan}
 use Rattle.request.specs.declared.Requested.{Requested}
 use Rattle.rewrite.specs.declared.Stepped.{Stepped}
 use Rattle.verdicts.specs.Tests.{Test, passed, refusal, ExactlyBy}
-use Rattle.walk.specs.Outcomes.{Locates, locateTests, locatedNumber}
-use Rattle.walk.specs.declared.Located.{Located}
+use Rattle.locate.specs.Outcomes.{Locates, locateTests, locatedNumber}
+use Rattle.locate.specs.declared.Located.{Located}
 use Rattle.promises.specs.Sectors.{sectorIn}
 
 -- ---- numbers

@@ -19,15 +19,15 @@ use Rattle.layouts.specs.declared.Checked.the-variants.{Passed, Refused}
 use Rattle.layouts.proofs.Refusals.{told-passed, then-refused, answer-refused}
 use Rattle.verdicts.specs.Tests.{Verdict, passed, refusal, by}
 use Rattle.verdicts.proofs.Tests.{append-passed, passed-both}
-use Rattle.walk.specs.Outcomes.{locateTests, found, Locates}
+use Rattle.locate.specs.Outcomes.{locateTests, found, Locates}
 use Rattle.walk.specs.declared.Block.{Block}
 use Rattle.walk.specs.declared.Block.the-variants.{Missing, Beyond, Within}
-use Rattle.walk.specs.declared.Located.{Located}
-use Rattle.walk.specs.declared.Located.the-variants as located
+use Rattle.locate.specs.declared.Located.{Located}
+use Rattle.locate.specs.declared.Located.the-variants as located
 use Rattle.walk.proofs.Block.{the-type as BlockType}
-use Rattle.walk.proofs.Located.{the-type as LocatedType}
+use Rattle.locate.proofs.Located.{the-type as LocatedType}
 use Rattle.walk.proofs.Passing.{readable}
-use Rattle.walk.proofs.Fitting.{located-within}
+use Rattle.locate.proofs.Fitting.{located-within}
 use Rattle.request.specs.Refusals.{callTests, isWithin, cellOf, placeTests, requestTests}
 use Rattle.request.specs.Outcomes.{firstPlan, Requests}
 use Rattle.request.specs.declared.Requested.{Requested}

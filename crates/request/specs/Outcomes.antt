@@ -5,8 +5,8 @@ use Prim.Native.Nat.{ℕ}
 use Rattle.layouts.specs.Refusals.{refusalNumber}
 use Rattle.rewrite.specs.declared.Plan.{Plan}
 use Rattle.verdicts.specs.Tests.{refusal, by}
-use Rattle.walk.specs.Outcomes.{found}
-use Rattle.walk.specs.declared.Located.{Located}
+use Rattle.locate.specs.Outcomes.{found}
+use Rattle.locate.specs.declared.Located.{Located}
 use Rattle.request.specs.Refusals.{cellOf, requestTests}
 use Rattle.request.specs.declared.Requested.{Requested}
 use Rattle.request.specs.declared.Requested.the-variants as request

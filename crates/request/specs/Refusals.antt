@@ -10,10 +10,10 @@ use Rattle.layouts.specs.declared.Layout.{Layout}
 use Rattle.layouts.specs.declared.Refusal.{Refusal}
 use Rattle.layouts.specs.declared.Refusal.the-variants.{Unreadable, OffBoundary}
 use Rattle.verdicts.specs.Tests.{Test}
-use Rattle.walk.specs.Outcomes.{locateTests, found}
+use Rattle.locate.specs.Outcomes.{locateTests, found}
 use Rattle.walk.specs.declared.Block.the-variants.{Missing, Beyond, Within}
-use Rattle.walk.specs.declared.Located.{Located}
-use Rattle.walk.specs.declared.Located.the-variants.{Unmet, Single, Doubled, Refused}
+use Rattle.locate.specs.declared.Located.{Located}
+use Rattle.locate.specs.declared.Located.the-variants.{Unmet, Single, Doubled, Refused}
 
 -- 5, 6, 7: the sector's new bytes and their mark.
 unfoldable pub contentsTests : Layout → (cylinder mark : ℕ) → List ℕ → List (Test Refusal)

@@ -31,6 +31,6 @@ pub fn request(
     if let Checked::Refused(refusal) = tested {
         return Requested::Refused(refusal);
     }
-    let located = walk::locate(layout, cylinder, side, sector, image);
+    let located = locate::locate(layout, cylinder, side, sector, image);
     refusals::noted(layout, located)
 }

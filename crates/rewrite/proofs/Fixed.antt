@@ -11,7 +11,7 @@ use lib.Dec.{eqb, lit<}
 use lib.ListN.{length, getD, set, length-set}
 use lib.Seq.{getD-set-same, getD-set-other}
 use Rattle.cells.specs.declared.Mode.{Mode}
-use Rattle.cells.proofs.Coding.{high-lt, low-lt}
+use Rattle.coding.proofs.Coding.{high-lt, low-lt}
 use Rattle.layouts.specs.declared.Layout.{Layout}
 use Rattle.marks.specs.declared.Mark.{Mark}
 use Rattle.rewrite.specs.Stores.{stored, blockEnd, coding, newEdc, joined, stores}

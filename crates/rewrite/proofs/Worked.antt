@@ -6,9 +6,9 @@ use Prim.Native.Nat.{ℕ, suc, _+_, _-_, _*_, _/_, _%_, _<_, _≤_}
 use native.Mathlib.Omega.{arith}
 use lib.ListN.{length, getD, length-append, List·getD-append}
 use lib.Seq.{getD-at, getD-append-add}
-use Rattle.cells.specs.Coding.{codedByte}
+use Rattle.coding.specs.Coding.{codedByte}
 use Rattle.cells.specs.declared.Mode.{Mode}
-use Rattle.cells.specs.declared.Pair.{Pair}
+use Rattle.coding.specs.declared.Pair.{Pair}
 use Rattle.edc.specs.Register.{edcBytes}
 use Rattle.layouts.specs.declared.Layout.{Layout}
 use Rattle.marks.specs.Marks.{markByte, lastByte}

@@ -3,7 +3,7 @@
 // most steps ask for none of it.
 use super::Store;
 use cells::Mode;
-use cells::Pair;
+use coding::Pair;
 use layouts::Layout;
 use marks::Mark;
 ghost use mathlib.Core.List.{_∷_};
@@ -69,14 +69,14 @@ fn coded_pair(mode: Mode, mark: u8, contents: &[u8], i: usize) -> Pair
     ensures { λ r. ⌜ r .second ≡ getD (field mode (markOf mark) (now (contents .entry))) (2 * i + 1) 0 ⌝ }
 {
     if i < contents.len() {
-        return cells::coded(mode, bit_before(mark, contents, i), contents[i]);
+        return coding::coded(mode, bit_before(mark, contents, i), contents[i]);
     }
     let register = edc_of(mode, mark, contents);
     let upper = (register / 256) as u8;
     if i == contents.len() {
-        return cells::coded(mode, bit_before(mark, contents, i), upper);
+        return coding::coded(mode, bit_before(mark, contents, i), upper);
     }
-    cells::coded(mode, upper % 2, (register % 256) as u8)
+    coding::coded(mode, upper % 2, (register % 256) as u8)
 }
 
 // Image byte `at` of them.

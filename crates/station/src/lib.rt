@@ -3,7 +3,7 @@ use cells::Mode;
 ghost use mathlib.Core.Path.{_≡_};
 ghost use Prim.Native.Nat.{_+_, _*_};
 ghost use lib.ListN.{length};
-ghost use Rattle.cells.specs.Coding.{high, low};
+ghost use Rattle.coding.specs.Coding.{high, low};
 ghost use Rattle.cells.specs.declared.Mode.the-variants.{Fm, Mfm};
 ghost use Rattle.station.specs.Outcomes.{GivesEdc, GivesCoded, GivesDataByte, GivesFormat, GivesRead, GivesPick, GivesRequest, GivesStep};
 
@@ -23,7 +23,7 @@ pub extern "C" fn station_edc(bytes: &[u8]) -> u16
 fn joined(mode: Mode, before: u8, byte: u8) -> u16
     ensures { λ r. ⌜ r ≡ high mode before byte * 256 + low mode byte ⌝ }
 {
-    let pair = cells::coded(mode, before, byte);
+    let pair = coding::coded(mode, before, byte);
     (pair.first as u16) * 256 + (pair.second as u16)
 }
 

@@ -8,9 +8,5 @@ pub mod Events
 pub mod Addresses
 -- how the code's round goes the ways of the definition's
 pub mod Stepping
--- where a sector's block is, as the walk goes on
-pub mod Seeking
--- a located block lies within the image
-pub mod Fitting
 -- what is known of a call that its tests pass
 pub mod Passing

@@ -6,8 +6,6 @@ use lib.Dec.{eqb}
 use Rattle.walk.specs.declared.Block.{Block}
 use Rattle.walk.specs.declared.Event.{Event}
 use Rattle.walk.specs.declared.Event.the-variants.{Bad, Foreign, Accepted}
-use Rattle.walk.specs.declared.Located.{Located}
-use Rattle.walk.specs.declared.Located.the-variants.{Unmet, Single, Doubled}
 
 -- The identifiers whose EDC is wrong, and those of other tracks: exactly what step 2 meets.
 unfoldable pub bads : List Event → ℕ
@@ -28,9 +26,3 @@ blocks s [] = []
 blocks s (Bad ∷ es) = blocks s es
 blocks s (Foreign ∷ es) = blocks s es
 blocks s (Accepted x b ∷ es) = cond (eqb x s) (b ∷ blocks s es) (blocks s es)
-
--- Where a sector's block is, by what its accepted identifiers gave: there is none, there is one, or there are more.
-unfoldable pub located : List Block → Located
-located [] = Unmet
-located (b ∷ []) = Single b
-located (b ∷ x ∷ bs) = Doubled

@@ -1,6 +1,6 @@
--- What the walk does as it goes: an address as it is read, and whether it is of this track, by its bytes; where a sector's block is once one event
--- more was met. (Aids of the code; the laws `own` and `located-after` say that they are the definitions'. No promise rests on them.)
-use mathlib.Core.Bool.{Bool, cond, _&&_}
+-- What the walk does as it goes: an address as it is read, and whether it is of this track, by its bytes. (Aids of the
+-- code; the law `own` says that it is the definition's. No promise rests on them.)
+use mathlib.Core.Bool.{Bool, _&&_}
 use mathlib.Core.List.{_++_}
 use mathlib.Core.Path.{_≡_}
 use Prim.Native.Nat.{ℕ, _+_, _≤_}
@@ -16,10 +16,6 @@ use Rattle.search.specs.Search.{eitherMarks, firstMark}
 use Rattle.walk.specs.Walk.{reach, reached}
 use Rattle.walk.specs.declared.Block.{Block}
 use Rattle.walk.specs.declared.Block.the-variants.{Missing, Beyond, Within}
-use Rattle.walk.specs.declared.Event.{Event}
-use Rattle.walk.specs.declared.Event.the-variants.{Bad, Foreign, Accepted}
-use Rattle.walk.specs.declared.Located.{Located}
-use Rattle.walk.specs.declared.Located.the-variants.{Unmet, Single, Doubled, Refused}
 use Rattle.walk.specs.declared.Round.{Round}
 
 -- The address at cell p: its four bytes, and the register once the identifier mark and all six bytes have entered it.
@@ -43,19 +39,6 @@ isOurs t first second third fourth =
     && eqb fourth (t .layout .fourth)
     && leb 1 third
     && leb third (t .layout .sectors)
-
--- Once one more of the sector's identifiers was accepted.
-abbrev pub locatedNext : Located → Block → Located
-locatedNext Unmet b = Single b
-locatedNext (Single x) b = Doubled
-locatedNext Doubled b = Doubled
-locatedNext (Refused f) b = Doubled
-
--- Once the walk has met an event more.
-abbrev pub locatedAfter : ℕ → Located → Event → Located
-locatedAfter s before Bad = before
-locatedAfter s before Foreign = before
-locatedAfter s before (Accepted x b) = cond (eqb x s) (locatedNext before b) before
 
 -- A block within an image of the house bound lies at a cell that sums can take.
 abbrev pub Placed : Block → Type 0

@@ -1,8 +1,6 @@
 // The walk over a track's image: from mark to mark, what each identifier is and which block it claims. The reader keeps what the walk meets,
-// sector by sector; a rewrite looks for the block of one sector.
+// sector by sector; a request looks for the block of one sector.
 use head::mark_from;
-use layouts::Checked;
-use layouts::Refusal;
 use layouts::Track;
 use rounds::address_at;
 use rounds::block_of;
@@ -10,11 +8,9 @@ use rounds::is_ours;
 use search::Found;
 use search::IDENTIFIER_MARKS;
 ghost use Rattle.marks.specs.Outcomes.{Housed};
-ghost use Rattle.walk.specs.Outcomes.{IsRound, Locates};
+ghost use Rattle.walk.specs.Outcomes.{IsRound};
 
 mod head;
-mod locating;
-mod refusals;
 mod rounds;
 
 // What an accepted identifier gave. A place is the cell at which a block's mark begins.
@@ -45,18 +41,6 @@ pub enum Round {
     Meets(Event, usize),
 }
 
-// Where a sector's block is.
-pub enum Located {
-    // no identifier of the sector is accepted
-    Unmet,
-    // one is, and gave this
-    Single(Block),
-    // more than one is
-    Doubled,
-    // the call is refused
-    Refused(Refusal),
-}
-
 // One round of the walk, from `place` on: the next identifier mark, its address, and the block that follows.
 pub fn next_round(track: Track, image: &[u8], place: usize) -> Round
     requires { ⌜ Housed (now image) ⌝ }
@@ -81,16 +65,4 @@ pub fn next_round(track: Track, image: &[u8], place: usize) -> Round
         return Round::Meets(Event::Foreign, after);
     }
     block_of(layout, image, address.sector as usize, after)
-}
-
-// Where the block of a sector is, on a track that the caller names.
-pub fn locate(layout: u32, cylinder: u32, side: u32, sector: u32, image: &[u8]) -> Located
-    ensures { λ r. ⌜ Locates layout cylinder side sector (now (image .entry)) r ⌝ }
-{
-    let tested = refusals::tested(layout, cylinder, side, image.len(), sector);
-    if let Checked::Refused(refusal) = tested {
-        return Located::Refused(refusal);
-    }
-    let track = layouts::track_of(layout, cylinder, side);
-    locating::locate_block(track, sector as usize, image)
 }

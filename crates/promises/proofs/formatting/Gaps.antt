@@ -9,7 +9,7 @@ use native.Mathlib.Nat.{add-assoc, add-zero}
 use native.Mathlib.Omega.{arith}
 use lib.Dec.{T}
 use lib.ListN.{length, getD, drop}
-use Rattle.cells.specs.Coding.{clock, four, high, low}
+use Rattle.coding.specs.Coding.{clock, four, high, low}
 use Rattle.cells.specs.declared.Mode.{Mode}
 use Rattle.cells.specs.declared.Mode.the-variants.{Fm, Mfm}
 use Rattle.format.specs.Order.{Symbol, mark, image, run}

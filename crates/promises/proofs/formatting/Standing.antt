@@ -6,15 +6,14 @@ use Prim.Native.Nat.{ℕ, zero, suc, _+_, _*_, _%_, _<_}
 use native.Mathlib.Nat.{add-assoc, add-zero, zero-add}
 use native.Mathlib.Omega.{arith}
 use lib.Dec.{lit<}
-use lib.ListN.{length, getD, take, drop}
+use lib.ListN.{length, getD}
 use Rattle.cells.specs.Cells.{cell, octet, dataBytes, Bytes}
 use Rattle.cells.specs.declared.Mode.{Mode}
 use Rattle.cells.specs.declared.Mode.the-variants.{Fm, Mfm}
-use Rattle.cells.proofs.Coding.{read-back, high-lt, low-lt}
+use Rattle.coding.proofs.Coding.{read-back, high-lt, low-lt}
 use Rattle.cells.proofs.Digits.{bit-lt}
 use Rattle.cells.proofs.Joined.{aligned}
 use Rattle.format.specs.Order.{Symbol, plain, mark, image, run, bytes}
-use Rattle.layouts.specs.Layouts.{Every}
 use Rattle.marks.proofs.Spelling.{string-width}
 use Rattle.marks.specs.Marks.{string, markByte}
 use Rattle.marks.specs.declared.Mark.{Mark}

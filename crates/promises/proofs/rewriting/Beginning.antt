@@ -15,7 +15,7 @@ use Rattle.layouts.specs.Tracks.{trackOf}
 use Rattle.read.specs.Outcomes.{readTests}
 use Rattle.verdicts.specs.Tests.{passed, refusal, by}
 use Rattle.verdicts.proofs.Tests.{append-passed, passed-both}
-use Rattle.walk.specs.Outcomes.{locateTests}
+use Rattle.locate.specs.Outcomes.{locateTests}
 use Rattle.promises.specs.Rewriting.{Accepted, FormattedCanBeRewritten}
 use Rattle.promises.proofs.formatting.Calls.{written, accepted-place, accepted-read}
 use Rattle.promises.proofs.rewriting.Granted.{sited, accepts}

@@ -10,7 +10,7 @@ use lib.ListN.{length, getD, length-append}
 use lib.Seq.{getD-set-same, getD-set-other}
 use Rattle.cells.specs.Cells.{cell, octet, dataBytes, Bytes}
 use Rattle.cells.specs.declared.Mode.{Mode}
-use Rattle.cells.proofs.Coding.{read-back}
+use Rattle.coding.proofs.Coding.{read-back}
 use Rattle.cells.proofs.Bytes.{bytes-append}
 use Rattle.cells.proofs.Joined.{cell-lt}
 use Rattle.edc.specs.Register.{edcBytes}

@@ -17,8 +17,9 @@ use Rattle.rewrite.specs.declared.Plan.{Plan}
 use Rattle.request.specs.declared.Requested.the-variants as request
 use Rattle.verdicts.specs.Tests.{Verdict, passed, refused, refusal, by}
 use Rattle.verdicts.proofs.Tests.{clash, append-passed, passed-both, first-passed}
-use Rattle.walk.specs.Events.{blocks, located}
-use Rattle.walk.specs.Outcomes.{locateTests, met, found}
+use Rattle.walk.specs.Events.{blocks}
+use Rattle.locate.specs.Outcomes.{located, locateTests, found}
+use Rattle.walk.specs.Outcomes.{met}
 use Rattle.walk.specs.declared.Block.{Block}
 use Rattle.walk.specs.declared.Block.the-variants.{Missing, Beyond, Within}
 use Rattle.promises.specs.Rewriting.{Fit}

@@ -1,7 +1,7 @@
 -- `joined` meets its contract: the two bytes are the coded byte's.
 use mathlib.Core.Path.{ap}
 use Prim.Native.Nat.{_+_, _*_}
-use Rattle.cells.specs.declared.Pair.{Pair}
+use Rattle.coding.specs.declared.Pair.{Pair}
 use borrow.Author.Needs.{needs}
 use Rattle.station.proofs.joined.Statement.{statement}
 use Rattle.station.proofs.joined.Tie as tie

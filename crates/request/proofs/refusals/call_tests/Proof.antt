@@ -6,7 +6,7 @@ use Rattle.layouts.specs.Refusals.{told, sectorTest}
 use Rattle.layouts.specs.declared.Layout.{Layout}
 use Rattle.layouts.proofs.Refusals.{then-refused, then-passed}
 use Rattle.verdicts.specs.Tests.{refusal}
-use Rattle.walk.specs.Outcomes.{locateTests}
+use Rattle.locate.specs.Outcomes.{locateTests}
 use Rattle.request.specs.Refusals.{contentsTests, callTests}
 use Rattle.rewrite.proofs.Counted.{size-some}
 use borrow.Author.Needs.{needs}

@@ -2,7 +2,7 @@
 use mathlib.Core.Path.{_≡_, ap, _∙_}
 use native.Mathlib.Omega.{arith}
 use Rattle.walk.specs.declared.Block.the-variants.{Within}
-use Rattle.walk.specs.declared.Located.the-variants.{Single}
+use Rattle.locate.specs.declared.Located.the-variants.{Single}
 use Rattle.request.specs.Refusals.{isWithin, cellOf}
 use Rattle.request.proofs.Noting.{not-single, not-within, not-located, off-boundary, on-boundary}
 use borrow.Author.Needs.{needs}

@@ -6,17 +6,18 @@ use Prim.Native.Nat.{ℕ, zero, suc, _+_, _≤_}
 use lib.Dec.{eqb}
 use Rattle.layouts.specs.declared.Track.{Track}
 use Rattle.layouts.specs.Layouts.{blockCells}
 use Rattle.walk.specs.Walk.{round, follow, walk, events}
-use Rattle.walk.specs.Events.{blocks, located}
+use Rattle.walk.specs.Events.{blocks}
+use Rattle.locate.specs.Outcomes.{located}
 use Rattle.walk.specs.declared.Block.{Block}
 use Rattle.walk.specs.declared.Block.the-variants.{Missing, Beyond, Within}
 use Rattle.walk.specs.declared.Event.{Event}
 use Rattle.walk.specs.declared.Event.the-variants.{Bad, Foreign, Accepted}
-use Rattle.walk.specs.declared.Located.the-variants.{Single}
+use Rattle.locate.specs.declared.Located.the-variants.{Single}
 use Rattle.walk.specs.declared.Round.{Round}
 use Rattle.walk.specs.declared.Round.the-variants.{Ends, Meets}
 use Rattle.verdicts.proofs.Tests.{clash}
 use Rattle.walk.proofs.Ways.{view, Sound, Onward, onward}
 
 module _ (t : Track) (c : ℕ → ℕ) (n : ℕ) where
   -- Every event of a walk is sound.

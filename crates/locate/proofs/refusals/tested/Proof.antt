@@ -5,10 +5,10 @@ use Rattle.layouts.specs.Refusals.{told, sectorTest}
 use Rattle.layouts.specs.declared.Layout.{Layout}
 use Rattle.layouts.proofs.Refusals.{then-refused, then-passed}
 use Rattle.verdicts.specs.Tests.{refusal}
-use Rattle.walk.specs.Outcomes.{locateTests}
+use Rattle.locate.specs.Outcomes.{locateTests}
 use borrow.Author.Needs.{needs}
-use Rattle.walk.proofs.refusals.tested.Statement.{statement}
-use Rattle.walk.proofs.refusals.tested.Tie as tie
+use Rattle.locate.proofs.refusals.tested.Statement.{statement}
+use Rattle.locate.proofs.refusals.tested.Tie as tie
 
 track-and-image-requires : tie.Need-track-and-image-requires
 track-and-image-requires c κs = search needs

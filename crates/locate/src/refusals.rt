@@ -3,7 +3,7 @@ use layouts::Checked;
 ghost use mathlib.Core.Path.{_≡_};
 ghost use Rattle.layouts.specs.Refusals.{told};
 ghost use Rattle.verdicts.specs.Tests.{refusal};
-ghost use Rattle.walk.specs.Outcomes.{locateTests};
+ghost use Rattle.locate.specs.Outcomes.{locateTests};
 
 // 2, 3, 4, 1, 9: the track, the image's length and the sector.
 pub(crate) fn tested(layout: u32, cylinder: u32, side: u32, image: usize, sector: u32) -> Checked

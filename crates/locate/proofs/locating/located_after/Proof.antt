@@ -1,11 +1,11 @@
 -- `located_after` meets its contract, event by event.
 use mathlib.Core.Path.{sym, ap}
-use Rattle.walk.specs.Turns.{locatedAfter}
+use Rattle.locate.specs.Turns.{locatedAfter}
 use Rattle.walk.specs.declared.Event.{Event}
-use Rattle.walk.proofs.Seeking.{after-own, after-other}
+use Rattle.locate.proofs.Seeking.{after-own, after-other}
 use borrow.Author.Needs.{needs}
-use Rattle.walk.proofs.locating.located_after.Statement.{statement}
-use Rattle.walk.proofs.locating.located_after.Tie as tie
+use Rattle.locate.proofs.locating.located_after.Statement.{statement}
+use Rattle.locate.proofs.locating.located_after.Tie as tie
 
 enum-told : tie.Need-enum-told
 enum-told c = search needs

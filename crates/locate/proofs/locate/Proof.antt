@@ -5,12 +5,13 @@ use denote.Ref.{now}
 use Rattle.layouts.specs.declared.Track.{Track}
 use Rattle.layouts.proofs.Refusals.{told-passed, answer-refused, answer-passed}
 use Rattle.verdicts.proofs.Tests.{passed-both}
-use Rattle.walk.specs.Events.{blocks, located}
-use Rattle.walk.specs.Outcomes.{met, locateTests}
+use Rattle.walk.specs.Events.{blocks}
+use Rattle.locate.specs.Outcomes.{located, locateTests}
+use Rattle.walk.specs.Outcomes.{met}
 use Rattle.walk.proofs.Passing.{readable}
 use borrow.Author.Needs.{needs}
-use Rattle.walk.proofs.locate.Statement.{statement}
-use Rattle.walk.proofs.locate.Tie as tie
+use Rattle.locate.proofs.locate.Statement.{statement}
+use Rattle.locate.proofs.locate.Tie as tie
 
 tested-requires : tie.Need-tested-requires
 tested-requires c κs = search needs

@@ -1,18 +1,16 @@
 // The walk that looks for the block of one sector.
-use super::Block;
-use super::Event;
 use super::Located;
-use super::Round;
-use super::next_round;
 use layouts::Track;
+use walk::Block;
+use walk::Event;
+use walk::Round;
 ghost use mathlib.Core.Path.{_≡_};
 ghost use Prim.Native.Nat.{_*_};
-ghost use lib.ListN.{length};
-ghost use Rattle.cells.specs.Cells.{cell};
 ghost use Rattle.marks.specs.Outcomes.{Housed};
-ghost use Rattle.walk.specs.Events.{blocks, located};
+ghost use Rattle.walk.specs.Events.{blocks};
+ghost use Rattle.locate.specs.Outcomes.{located};
 ghost use Rattle.walk.specs.Outcomes.{met};
-ghost use Rattle.walk.specs.Turns.{locatedNext, locatedAfter};
+ghost use Rattle.locate.specs.Turns.{locatedNext, locatedAfter};
 
 // Where the sector's block is, once one more of its identifiers was accepted.
 fn located_next(before: Located, block: Block) -> Located
@@ -51,7 +49,7 @@ pub(crate) fn locate_block(track: Track, sector: usize, image: &[u8]) -> Located
     let mut at = 0;
     let end = 8 * image.len();
     while at < end {
-        let round = next_round(track, image, at);
+        let round = walk::next_round(track, image, at);
         match round {
             Round::Ends => {
                 at = end;

@@ -7,13 +7,13 @@ use Prim.Native.Nat.{ℕ, _+_, _*_, _/_, _%_, _<_}
 use native.Mathlib.Omega.{arith}
 use lib.Bits.{bitAnd, bitOr, bitXor}
 use lib.Dec.{eqb, eqb→eq}
 use Rattle.cells.proofs.Table.{all-at}
-use Rattle.cells.proofs.Coding.{low-lt, high-one}
-use Rattle.cells.specs.Coding.{clock, four, high, low}
+use Rattle.coding.proofs.Coding.{low-lt, high-one}
+use Rattle.coding.specs.Coding.{clock, four, high, low}
 use Rattle.cells.specs.declared.Mode.{Mode}
 use Rattle.cells.specs.declared.Mode.the-variants.{Fm, Mfm}
-use Rattle.cells.proofs.sixteen.Statement.{statement}
-use Rattle.cells.proofs.sixteen.Tie as tie
+use Rattle.coding.proofs.sixteen.Statement.{statement}
+use Rattle.coding.proofs.sixteen.Tie as tie
 
 -- The two image bytes, joined.
 abbrev joined : Mode → ℕ → ℕ → ℕ

@@ -5,14 +5,15 @@ use mathlib.Core.List.{List, [], _∷_, _++_, append-nil, append-assoc}
 use Prim.Native.Nat.{ℕ}
 use borrow.Author.Tests.{eq-eqb, ne-eqb}
 use lib.Dec.{eqb}
-use Rattle.walk.specs.Events.{blocks, located}
-use Rattle.walk.specs.Turns.{locatedNext, locatedAfter}
+use Rattle.walk.specs.Events.{blocks}
+use Rattle.locate.specs.Outcomes.{located}
+use Rattle.locate.specs.Turns.{locatedNext, locatedAfter}
 use Rattle.walk.specs.declared.Block.{Block}
 use Rattle.walk.specs.declared.Event.{Event}
 use Rattle.walk.specs.declared.Event.the-variants.{Bad, Foreign, Accepted}
-use Rattle.walk.specs.declared.Located.{Located}
-use Rattle.walk.specs.declared.Located.the-variants.{Unmet}
+use Rattle.locate.specs.declared.Located.{Located}
+use Rattle.locate.specs.declared.Located.the-variants.{Unmet}
 use Rattle.walk.proofs.Events.{blocks-append, blocks-bad, blocks-foreign}
 
 located-next : (bs : List Block) (b : Block) → located (bs ++ b ∷ []) ≡ locatedNext (located bs) b
 unfolding located

@@ -5,12 +5,12 @@ use Prim.Native.Nat.{_-_, _*_, _≤_}
 use native.Mathlib.Omega.{arith}
 use lib.ListN.{length}
 use Rattle.cells.specs.Cells.{cell}
 use Rattle.walk.specs.Walk.{walk}
 use Rattle.walk.specs.Outcomes.{met}
-use Rattle.walk.proofs.Seeking.{Held, held-start, held-left, held-turn, held-end}
+use Rattle.locate.proofs.Seeking.{Held, held-start, held-left, held-turn, held-end}
 use Rattle.walk.proofs.Walking.{walk-past, walk-ends, walk-all, turn-left, turn-onward}
-use Rattle.walk.proofs.locating.locate_block.Statement.{statement}
-use Rattle.walk.proofs.locating.locate_block.Tie as tie
+use Rattle.locate.proofs.locating.locate_block.Statement.{statement}
+use Rattle.locate.proofs.locating.locate_block.Tie as tie
 
 abbrev Inv-loop : tie.InvT-loop
 Inv-loop track sector image found₀ at₀ end found at =

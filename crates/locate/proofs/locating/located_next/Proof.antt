@@ -1,10 +1,10 @@
 -- `located_next` meets its contract, case by case.
 use mathlib.Core.Path.{sym, ap}
-use Rattle.walk.specs.Turns.{locatedNext}
-use Rattle.walk.specs.declared.Located.{Located}
+use Rattle.locate.specs.Turns.{locatedNext}
+use Rattle.locate.specs.declared.Located.{Located}
 use borrow.Author.Needs.{needs}
-use Rattle.walk.proofs.locating.located_next.Statement.{statement}
-use Rattle.walk.proofs.locating.located_next.Tie as tie
+use Rattle.locate.proofs.locating.located_next.Statement.{statement}
+use Rattle.locate.proofs.locating.located_next.Tie as tie
 
 enum-told : tie.Need-enum-told
 enum-told c = search needs

@@ -3,12 +3,12 @@ use mathlib.Core.Path.{_≡_, sym, _∙_}
 use Prim.Native.Nat.{ℕ, _+_, _*_, _/_, _%_, _<_}
 use native.Mathlib.Omega.{arith}
 use lib.Dec.{lit<}
 use Rattle.cells.proofs.Digits.{bit-lt, byte-lt, bits}
 use Rattle.cells.proofs.Joined.{nibbleOf, data-octets, nibble-digits}
 use Rattle.cells.specs.Cells.{byteOf, octet, dataByte}
-use Rattle.cells.specs.Coding.{clock, four, high, low}
+use Rattle.coding.specs.Coding.{clock, four, high, low}
 use Rattle.cells.specs.declared.Mode.{Mode}
 use Rattle.cells.specs.declared.Mode.the-variants.{Fm, Mfm}
 
 pub clock-lt : (mode : Mode) (a d : ℕ) → clock mode a d < 2
 unfolding clock

@@ -2,12 +2,12 @@
 use mathlib.Core.Path.{_≡_, ap₂}
 use Prim.Native.Nat.{_/_, _%_}
 use native.Mathlib.Omega.{arith}
-use Rattle.cells.proofs.Coding.{high-lt, low-lt}
-use Rattle.cells.specs.Coding.{high, low}
-use Rattle.cells.specs.declared.Pair.{Pair}
+use Rattle.coding.proofs.Coding.{high-lt, low-lt}
+use Rattle.coding.specs.Coding.{high, low}
+use Rattle.coding.specs.declared.Pair.{Pair}
 use borrow.Author.Needs.{needs}
-use Rattle.cells.proofs.coded.Statement.{statement}
-use Rattle.cells.proofs.coded.Tie as tie
+use Rattle.coding.proofs.coded.Statement.{statement}
+use Rattle.coding.proofs.coded.Tie as tie
 
 sixteen-requires : tie.Need-sixteen-requires
 sixteen-requires c κs = search needs

@@ -1,0 +1,2 @@
+-- what is coded is read back
+pub mod Coding
