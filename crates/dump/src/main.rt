@@ -84,8 +84,8 @@ fn print_answers(sectors: usize, records: Records) -> bool {
 // What the call answered for the track.
 fn print_reading(layout: u8, cylinder: u8, side: u8, reading: Reading) -> bool {
     let verdict = reading.verdict;
-    if let layouts::Checked::Refused(refusal) = verdict {
-        return print_refusal(layouts::refusal_number(refusal));
+    if let calls::Checked::Refused(refusal) = verdict {
+        return print_refusal(calls::refusal_number(refusal));
     }
     let records = reading.records;
     io::write_all(STDOUT_FILENO, b"track ")

@@ -14,7 +14,7 @@ use Rattle.layouts.specs.Tracks.{highestCylinder, highestSide, trackOf}
 use Rattle.layouts.specs.declared.Layout.{Layout}
 use Rattle.layouts.specs.declared.Track.{Track}
 use Rattle.layouts.proofs.Layouts.{every-layout, adds}
-use Rattle.layouts.proofs.Refusals.{track-known}
+use Rattle.layouts.proofs.Tracks.{track-known}
 use Rattle.format.specs.Order.{formatted}
 use Rattle.format.specs.Refusals.{formTests, contentTests, formatTests}
 use Rattle.format.proofs.Judged.{marks-counted}

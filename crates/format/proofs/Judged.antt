@@ -11,13 +11,14 @@ use borrow.Author.Tests.{eq-eqb, ne-eqb, eqb-true, not-false, lt-ltb, le-ltb}
 use Rattle.verdicts.specs.Tests.{Test, passed, refused, refusal, by}
 use Rattle.verdicts.proofs.Tests.{clash, first-passed}
 use Rattle.layouts.specs.Layouts.{layoutOf, fields, numbers}
-use Rattle.layouts.specs.Refusals.{told, areaTest, markTest, controlTest, trackTests}
-use Rattle.layouts.proofs.Refusals.{told-passed, told-refused, then-passed, then-refused, or-left}
+use Rattle.calls.specs.Refusals.{told, areaTest, markTest, controlTest}
+use Rattle.layouts.specs.Refusals.{trackTests}
+use Rattle.calls.proofs.Refusals.{told-passed, told-refused, then-passed, then-refused, or-left}
 use Rattle.layouts.specs.declared.Layout.{Layout}
-use Rattle.layouts.specs.declared.Refusal.{Refusal}
-use Rattle.layouts.specs.declared.Refusal.the-variants.{ImageLength, MarkBytes, ControlRecord, Overfull}
-use Rattle.layouts.specs.declared.Checked.{Checked}
-use Rattle.layouts.specs.declared.Checked.the-variants.{Passed, Refused}
+use Rattle.calls.specs.declared.Refusal.{Refusal}
+use Rattle.calls.specs.declared.Refusal.the-variants.{ImageLength, MarkBytes, ControlRecord, Overfull}
+use Rattle.calls.specs.declared.Checked.{Checked}
+use Rattle.calls.specs.declared.Checked.the-variants.{Passed, Refused}
 use Rattle.format.specs.Refusals.{some, trackImageTest, marksTest, controlsTest, fieldsTest, formTests, contentTests}
 
 -- ---- one test

@@ -8,8 +8,8 @@ use Rattle.format.specs.Order.{formatted}
 use Rattle.format.specs.Refusals.{formatTests}
 use Rattle.layouts.specs.Layouts.{layoutOf, numbers}
 use Rattle.layouts.specs.Tracks.{trackOf}
-use Rattle.layouts.specs.Refusals.{told}
-use Rattle.layouts.specs.declared.Checked.{Checked}
+use Rattle.calls.specs.Refusals.{told}
+use Rattle.calls.specs.declared.Checked.{Checked}
 
 module _ (layout cylinder side : ℕ) (contents marks before : List ℕ) where
   -- What `format` answers: the refusal of the first test that applies, or that none does.

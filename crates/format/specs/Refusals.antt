@@ -7,10 +7,11 @@ use lib.Dec.{ltb, eqb}
 use lib.ListN.{length, getD}
 use Rattle.verdicts.specs.Tests.{Test}
 use Rattle.layouts.specs.Layouts.{layoutOf, fields, numbers}
-use Rattle.layouts.specs.Refusals.{areaTest, markTest, controlTest, trackTests}
+use Rattle.calls.specs.Refusals.{areaTest, markTest, controlTest}
+use Rattle.layouts.specs.Refusals.{trackTests}
 use Rattle.layouts.specs.declared.Layout.{Layout}
-use Rattle.layouts.specs.declared.Refusal.{Refusal}
-use Rattle.layouts.specs.declared.Refusal.the-variants.{ImageLength, MarkBytes, ControlRecord, Overfull}
+use Rattle.calls.specs.declared.Refusal.{Refusal}
+use Rattle.calls.specs.declared.Refusal.the-variants.{ImageLength, MarkBytes, ControlRecord, Overfull}
 
 -- The test holds of some number of the list.
 unfoldable pub some : (ℕ → Bool) → List ℕ → Bool

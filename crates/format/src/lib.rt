@@ -1,5 +1,5 @@
 // The formatter: exactly the cells that ISO 7065-2 lays down for a track.
-use layouts::Checked;
+use calls::Checked;
 use layouts::MOST_SECTORS;
 ghost use Rattle.format.specs.Outcomes.{Formats};
 

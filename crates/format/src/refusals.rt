@@ -1,14 +1,14 @@
 // The refusals of a format: the tests in the papers' order, of which the first that applies gives the refusal.
 use super::lengths::fields_of;
-use layouts::Checked;
+use calls::Checked;
+use calls::Refusal;
 use layouts::Layout;
-use layouts::Refusal;
 ghost use mathlib.Core.Path.{_≡_};
 ghost use Prim.Native.Nat.{_*_, _≤_};
 ghost use lib.ListN.{length};
 ghost use Rattle.verdicts.specs.Tests.{refusal};
 ghost use Rattle.layouts.specs.Layouts.{fields};
-ghost use Rattle.layouts.specs.Refusals.{told};
+ghost use Rattle.calls.specs.Refusals.{told};
 ghost use Rattle.format.specs.Refusals.{marksTest, controlsTest, formTests, contentTests, formatTests};
 
 // 6: whether there are more or fewer marks than sectors, or one is neither FB nor F8.
@@ -20,7 +20,7 @@ fn has_wrong_mark(sectors: usize, marks: &[u8]) -> bool
     }
     let mut i = 0;
     while i < marks.len() {
-        let Checked::Passed = layouts::mark_byte(marks[i] as u32) else {
+        let Checked::Passed = calls::mark_byte(marks[i] as u32) else {
             return true;
         };
         i += 1;
@@ -36,7 +36,7 @@ fn has_wrong_control(layout: Layout, cylinder: u32, contents: &[u8], marks: &[u8
     let mut i = 0;
     let mut from = 0;
     while i < layout.sectors {
-        let Checked::Passed = layouts::control_record(cylinder, marks[i] as u32, contents[from])
+        let Checked::Passed = calls::control_record(cylinder, marks[i] as u32, contents[from])
         else {
             return true;
         };
@@ -71,7 +71,7 @@ fn content_tests(
     requires { ⌜ (2 * fields layout ≤ 9223372036854775807) × (layout .«area_bytes» ≡ layout .sectors * layout .size) × (1 ≤ layout .size) × (1 ≤ layout .sectors) ⌝ }
     ensures { λ r. ⌜ r ≡ told (refusal (contentTests layout cylinder (now (contents .entry)) (now (marks .entry)) length)) ⌝ }
 {
-    let area = layouts::area_length(layout.area_bytes, contents.len());
+    let area = calls::area_length(layout.area_bytes, contents.len());
     let Checked::Passed = area else {
         return area;
     };

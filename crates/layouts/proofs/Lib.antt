@@ -2,5 +2,5 @@
 
 -- every number has one of the four layouts, and their numbers add up; a slot within its area
 pub mod Layouts
--- the refusals' numbers tell them apart; tests that follow tests; a track and a sector whose tests have passed
-pub mod Refusals
+-- a track whose tests have passed
+pub mod Tracks

@@ -1,10 +1,10 @@
--- What the contracts of the layouts and of the refusals shared by every call cite.
+-- What the contracts of the layouts cite.
 
 -- the four layouts, and what their fields add up to
 pub mod Layouts
 -- which tracks there are, and which layouts they take
 pub mod Tracks
--- the refusals' numbers, and the tests that several calls share
+-- the tests of a track's numbers
 pub mod Refusals
 -- what each public function promises
 pub mod Outcomes

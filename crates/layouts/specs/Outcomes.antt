@@ -6,11 +6,11 @@ use Rattle.cells.specs.declared.Mode.{Mode}
 use Rattle.verdicts.specs.Tests.{refusal}
 use Rattle.layouts.specs.declared.Layout.{Layout}
 use Rattle.layouts.specs.declared.Track.{Track}
-use Rattle.layouts.specs.declared.Refusal.{Refusal}
-use Rattle.layouts.specs.declared.Checked.{Checked}
+use Rattle.calls.specs.declared.Checked.{Checked}
 use Rattle.layouts.specs.Layouts.{gapByte, layoutOf}
 use Rattle.layouts.specs.Tracks.{trackOf}
-use Rattle.layouts.specs.Refusals.{refusalNumber, checkedNumber, told, imageTest, numberTest, areaTest, markTest, controlTest, sectorTest, trackTests, readingTests}
+use Rattle.calls.specs.Refusals.{told}
+use Rattle.layouts.specs.Refusals.{numberTest, trackTests, readingTests}
 
 -- The constants of a layout's type are the definition's.
 abbrev pub IsLayout : Layout → Layout → Type 0
@@ -19,14 +19,6 @@ IsLayout l r = r ≡ l
 -- The byte that fills the mode's gaps.
 abbrev pub IsGapByte : Mode → ℕ → Type 0
 IsGapByte mode r = r ≡ gapByte mode
-
--- The number that the papers give the refusal.
-abbrev pub IsRefusalNumber : Refusal → ℕ → Type 0
-IsRefusalNumber f r = r ≡ refusalNumber f
-
--- The number of the answer.
-abbrev pub IsCheckedNumber : Checked → ℕ → Type 0
-IsCheckedNumber answer r = r ≡ checkedNumber answer
 
 -- The layout of the number.
 abbrev pub IsLayoutOf : (layout : ℕ) → Layout → Type 0
@@ -47,23 +39,3 @@ IsTrackNumbers layout cylinder side r = r ≡ told (refusal (trackTests layout c
 -- Passed, or refused by the first of 2, 3, 4, 1.
 abbrev pub IsTrackAndImage : (layout cylinder side length : ℕ) → Checked → Type 0
 IsTrackAndImage layout cylinder side length r = r ≡ told (refusal (readingTests layout cylinder side length))
-
--- Passed, or refused 1.
-abbrev pub IsImageLength : (length : ℕ) → Checked → Type 0
-IsImageLength length r = r ≡ told (refusal (imageTest length ∷ []))
-
--- Passed, or refused 5.
-abbrev pub IsAreaLength : (wanted given : ℕ) → Checked → Type 0
-IsAreaLength wanted given r = r ≡ told (refusal (areaTest wanted given ∷ []))
-
--- Passed, or refused 6.
-abbrev pub IsMarkByte : (mark : ℕ) → Checked → Type 0
-IsMarkByte mark r = r ≡ told (refusal (markTest mark ∷ []))
-
--- Passed, or refused 7.
-abbrev pub IsControlRecord : (cylinder mark first : ℕ) → Checked → Type 0
-IsControlRecord cylinder mark first r = r ≡ told (refusal (controlTest cylinder mark first ∷ []))
-
--- Passed, or refused 9.
-abbrev pub IsSectorNumber : (sectors sector : ℕ) → Checked → Type 0
-IsSectorNumber sectors sector r = r ≡ told (refusal (sectorTest sectors sector ∷ []))

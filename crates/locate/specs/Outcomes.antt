@@ -5,8 +5,9 @@ use Prim.Native.Nat.{ℕ}
 use lib.ListN.{length}
 use Rattle.layouts.specs.Layouts.{layoutOf}
 use Rattle.layouts.specs.Tracks.{trackOf}
-use Rattle.layouts.specs.Refusals.{refusalNumber, sectorTest, readingTests}
-use Rattle.layouts.specs.declared.Refusal.{Refusal}
+use Rattle.calls.specs.Refusals.{refusalNumber, sectorTest}
+use Rattle.layouts.specs.Refusals.{readingTests}
+use Rattle.calls.specs.declared.Refusal.{Refusal}
 use Rattle.verdicts.specs.Tests.{Test, refusal, by}
 use Rattle.walk.specs.Events.{blocks}
 use Rattle.walk.specs.Outcomes.{met}

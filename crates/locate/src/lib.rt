@@ -1,6 +1,6 @@
 // Where a sector's block is: the walk over a track, for the sake of one sector.
-use layouts::Checked;
-use layouts::Refusal;
+use calls::Checked;
+use calls::Refusal;
 use walk::Block;
 ghost use Rattle.locate.specs.Outcomes.{Locates};
 

@@ -1,7 +1,7 @@
 // The refusals of locate, in the papers' order: the first test that applies.
-use layouts::Checked;
+use calls::Checked;
 ghost use mathlib.Core.Path.{_≡_};
-ghost use Rattle.layouts.specs.Refusals.{told};
+ghost use Rattle.calls.specs.Refusals.{told};
 ghost use Rattle.verdicts.specs.Tests.{refusal};
 ghost use Rattle.locate.specs.Outcomes.{locateTests};
 
@@ -14,5 +14,5 @@ pub(crate) fn tested(layout: u32, cylinder: u32, side: u32, image: usize, sector
         return first;
     };
     let taken = layouts::layout_of(layout);
-    layouts::sector_number(taken.sectors, sector)
+    calls::sector_number(taken.sectors, sector)
 }

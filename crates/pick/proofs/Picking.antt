@@ -8,7 +8,7 @@ use borrow.Author.Tests.{eqb-true, ltb-false, not-false}
 use Rattle.layouts.specs.Layouts.{highest, mostSectors, layoutOf}
 use Rattle.layouts.specs.Refusals.{numberTest}
 use Rattle.layouts.proofs.Layouts.{adds, sectors-few}
-use Rattle.layouts.proofs.Refusals.{sector-known}
+use Rattle.calls.proofs.Refusals.{sector-known}
 use Rattle.verdicts.specs.Tests.{passed, refusal}
 use Rattle.verdicts.proofs.Tests.{passed-both, first-passed}
 use Rattle.answers.specs.Answers.{carries}

@@ -6,9 +6,10 @@ use mathlib.Core.Path.{_≡_}
 use Prim.Native.Nat.{ℕ, _-_}
 use lib.ListN.{getD, length}
 use Rattle.layouts.specs.Layouts.{layoutOf, slotIn}
-use Rattle.layouts.specs.Refusals.{numberTest, areaTest, sectorTest}
+use Rattle.layouts.specs.Refusals.{numberTest}
+use Rattle.calls.specs.Refusals.{areaTest, sectorTest}
 use Rattle.layouts.specs.declared.Layout.{Layout}
-use Rattle.layouts.specs.declared.Refusal.{Refusal}
+use Rattle.calls.specs.declared.Refusal.{Refusal}
 use Rattle.verdicts.specs.Tests.{Test, refusal, by}
 use Rattle.answers.specs.Answers.{carries, unread}
 use Rattle.answers.specs.declared.Record.{Record}

@@ -1,8 +1,8 @@
 // The pick of a sector from two passes over one track.
 use answers::Record;
 use answers::Records;
-use layouts::Checked;
-use layouts::Refusal;
+use calls::Checked;
+use calls::Refusal;
 ghost use Rattle.pick.specs.Picks.{IsChosen, IsPicked, IsStretch};
 
 mod passes;

@@ -1,8 +1,8 @@
 // The refusals of a pick, in the papers' order: the first test that applies.
-use layouts::Checked;
+use calls::Checked;
 use layouts::Layout;
 ghost use mathlib.Core.Path.{_≡_};
-ghost use Rattle.layouts.specs.Refusals.{told};
+ghost use Rattle.calls.specs.Refusals.{told};
 ghost use Rattle.verdicts.specs.Tests.{refusal};
 ghost use Rattle.pick.specs.Picks.{areaTests, pickTests};
 
@@ -10,15 +10,15 @@ ghost use Rattle.pick.specs.Picks.{areaTests, pickTests};
 fn area_tests(layout: Layout, sector: u32, first: usize, second: usize) -> Checked
     ensures { λ r. ⌜ r ≡ told (refusal (areaTests layout sector first second)) ⌝ }
 {
-    let number = layouts::sector_number(layout.sectors, sector);
+    let number = calls::sector_number(layout.sectors, sector);
     let Checked::Passed = number else {
         return number;
     };
-    let area = layouts::area_length(layout.area_bytes, first);
+    let area = calls::area_length(layout.area_bytes, first);
     let Checked::Passed = area else {
         return area;
     };
-    layouts::area_length(layout.area_bytes, second)
+    calls::area_length(layout.area_bytes, second)
 }
 
 // 4, 9, 5 of a pick.

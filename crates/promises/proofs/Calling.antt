@@ -7,10 +7,10 @@ use lib.ListN.{length}
 use Rattle.format.specs.Outcomes.{Formats}
 use Rattle.format.specs.Refusals.{formatTests}
 use Rattle.layouts.specs.Layouts.{highest, layoutOf}
-use Rattle.layouts.specs.Refusals.{refusalNumber}
-use Rattle.layouts.specs.declared.Checked.the-variants.{Passed, Refused}
+use Rattle.calls.specs.Refusals.{refusalNumber}
+use Rattle.calls.specs.declared.Checked.the-variants.{Passed, Refused}
 use Rattle.marks.specs.Marks.{markOf}
-use Rattle.layouts.proofs.Refusals.{told-passing, numbers-apart}
+use Rattle.calls.proofs.Refusals.{told-passing, numbers-apart}
 use Rattle.rewrite.specs.Outcomes.{storesInAll, stepAnswer}
 use Rattle.request.specs.Outcomes.{requestAnswer, requestedNumber, Requests}
 use Rattle.rewrite.specs.Stores.{storeCount}

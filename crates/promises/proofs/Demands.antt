@@ -7,11 +7,11 @@ use native.Mathlib.Omega.{arith}
 use lib.ListN.{length, replicate}
 use Rattle.cells.specs.Cells.{cell}
 use Rattle.layouts.specs.Layouts.{layoutOf}
-use Rattle.layouts.specs.Refusals.{refusalNumber}
+use Rattle.calls.specs.Refusals.{refusalNumber, checkedNumber}
 use Rattle.layouts.specs.Tracks.{trackOf}
-use Rattle.layouts.specs.declared.Checked.the-variants.{Passed, Refused}
-use Rattle.layouts.specs.declared.Refusal.{Refusal}
-use Rattle.layouts.proofs.Refusals.{number-told, numbers-apart, number-known}
+use Rattle.calls.specs.declared.Checked.the-variants.{Passed, Refused}
+use Rattle.calls.specs.declared.Refusal.{Refusal}
+use Rattle.calls.proofs.Refusals.{number-told, numbers-apart, number-known}
 use Rattle.read.specs.Records.{slotOf, refused as refusing, blockAnswer, blockBytes, identifierRecord, recordFor, sectorOf, areaOf}
 use Rattle.answers.specs.Answers.{answerNumber, carries}
 use Rattle.read.specs.Outcomes.{reading, refusedReading, readTests, readAnswer, readArea}
@@ -40,7 +40,6 @@ use Rattle.locate.specs.declared.Located.the-variants as locate
 use lib.Dec.{leb}
 use Rattle.promises.specs.Reading.{NothingOldShows, RefusedLeavesZeros, RefusedSlotsAreZero, RefusedSectorsLeaveZeros, OfOnePass, PartOfOnePass}
 use Rattle.promises.specs.Refusing.{NumbersApart, RefusedBy, FormatRefuses, ReadRefuses, LocateRefuses, PickRefuses, RequestRefuses, StepRefuses}
-use Rattle.layouts.specs.Refusals.{checkedNumber}
 use Rattle.promises.proofs.formatting.Calls.{record-read, slot-read}
 
 pub numbers-are-apart : NumbersApart

@@ -12,11 +12,11 @@ use lib.ListN.{length, getD, take, drop, replicate}
 use lib.Seq.{getD-drop}
 use Rattle.format.specs.Refusals.{formatTests}
 use Rattle.layouts.specs.Layouts.{layoutOf, mostSectors, numbers}
-use Rattle.layouts.specs.Refusals.{refusalNumber}
+use Rattle.calls.specs.Refusals.{refusalNumber}
 use Rattle.layouts.specs.Tracks.{trackOf}
-use Rattle.layouts.specs.declared.Checked.the-variants.{Passed, Refused}
-use Rattle.layouts.specs.declared.Refusal.{Refusal}
-use Rattle.layouts.proofs.Refusals.{told-passing, numbers-apart, number-known}
+use Rattle.calls.specs.declared.Checked.the-variants.{Passed, Refused}
+use Rattle.calls.specs.declared.Refusal.{Refusal}
+use Rattle.calls.proofs.Refusals.{told-passing, numbers-apart, number-known}
 use Rattle.answers.specs.Answers.{answerNumber, carries, unread}
 use Rattle.read.specs.Records.{slots}
 use Rattle.read.specs.Outcomes.{reading, refusedReading, readTests, readAnswer, readArea}

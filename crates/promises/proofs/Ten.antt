@@ -10,7 +10,7 @@ use Rattle.cells.specs.Cells.{cell}
 use Rattle.layouts.specs.Layouts.{layoutOf}
 use Rattle.layouts.specs.Refusals.{readingTests}
 use Rattle.layouts.specs.Tracks.{trackOf}
-use Rattle.layouts.specs.declared.Refusal.{Refusal}
+use Rattle.calls.specs.declared.Refusal.{Refusal}
 use Rattle.layouts.specs.declared.Track.{Track}
 use Rattle.marks.specs.Marks.{stands}
 use Rattle.marks.specs.declared.Mark.the-variants as marks
@@ -30,7 +30,7 @@ use Rattle.walk.specs.Walk.{edcRight}
 use Rattle.walk.specs.declared.Block.{Block}
 use Rattle.walk.specs.declared.Block.the-variants.{Missing, Beyond, Within}
 use Rattle.locate.specs.declared.Located.{Located}
-use Rattle.layouts.proofs.Refusals.{sector-known}
+use Rattle.calls.proofs.Refusals.{sector-known}
 use Rattle.promises.specs.Refusing.{Unreadable, TenAsRead}
 
 -- ---- what reading answers

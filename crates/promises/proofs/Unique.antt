@@ -1,4 +1,5 @@
 -- The contract of every public function allows one outcome: a theorem for each, by the function's name.
+use mathlib.Core.Bool.{Bool}
 use mathlib.Core.List.{List}
 use mathlib.Core.Path.{_≡_, sym, ap₂, _∙_}
 use Prim.Native.Nat.{ℕ}
@@ -7,12 +8,11 @@ use Rattle.coding.specs.Outcomes.{IsCoded}
 use Rattle.cells.specs.declared.Mode.{Mode}
 use Rattle.edc.specs.Outcomes.{IsByteEntered, IsBytesEntered, IsEdc}
 use Rattle.format.specs.Outcomes.{Formats}
-use Rattle.layouts.specs.declared.Checked.{Checked}
-use Rattle.layouts.specs.Outcomes.{IsCheckedNumber, IsLayout, IsLayoutOf, IsTrack, IsGapByte, IsRefusalNumber}
-use Rattle.layouts.specs.Outcomes.{IsLayoutNumber, IsTrackNumbers, IsTrackAndImage, IsImageLength, IsAreaLength, IsMarkByte}
-use Rattle.layouts.specs.Outcomes.{IsControlRecord, IsSectorNumber}
+use Rattle.calls.specs.declared.Checked.{Checked}
+use Rattle.calls.specs.Outcomes.{IsTested, IsCheckedNumber, IsRefusalNumber, IsImageLength, IsAreaLength, IsMarkByte, IsControlRecord, IsSectorNumber}
+use Rattle.layouts.specs.Outcomes.{IsLayout, IsLayoutOf, IsTrack, IsGapByte, IsLayoutNumber, IsTrackNumbers, IsTrackAndImage}
 use Rattle.layouts.specs.declared.Layout.{Layout}
-use Rattle.layouts.specs.declared.Refusal.{Refusal}
+use Rattle.calls.specs.declared.Refusal.{Refusal}
 use Rattle.marks.specs.Outcomes.{IsString, AreMarkBytes, IsLastByte, IsLastBit, TellsStanding, IsRegisterAfter, IsMarkOf}
 use Rattle.marks.specs.declared.Mark.{Mark}
 use Rattle.search.specs.declared.Kinds.{Kinds}
@@ -102,14 +102,7 @@ mark-at mode kinds image place = by-value _
 pub find : (mode : Mode) (kinds : Kinds) (image : List ℕ) (from to : ℕ) → Unique (IsFirstMark mode kinds image from to)
 find mode kinds image from to = by-value _
 
--- ---- layouts
-
--- Layout0::layout to Layout3::layout
-pub layout : (l : Layout) → Unique (IsLayout l)
-layout l = by-value _
-
-pub gap-byte : (mode : Mode) → Unique (IsGapByte mode)
-gap-byte mode = by-value _
+-- ---- calls
 
 pub refusal-number : (refusal : Refusal) → Unique (IsRefusalNumber refusal)
 refusal-number refusal = by-value _
@@ -117,20 +110,8 @@ refusal-number refusal = by-value _
 pub checked-number : (answer : Checked) → Unique (IsCheckedNumber answer)
 checked-number answer = by-value _
 
-pub layout-of : (layout : ℕ) → Unique (IsLayoutOf layout)
-layout-of layout = by-value _
-
-pub track-of : (layout cylinder side : ℕ) → Unique (IsTrack layout cylinder side)
-track-of layout cylinder side = by-value _
-
-pub layout-number : (layout : ℕ) → Unique (IsLayoutNumber layout)
-layout-number layout = by-value _
-
-pub track-numbers : (layout cylinder side : ℕ) → Unique (IsTrackNumbers layout cylinder side)
-track-numbers layout cylinder side = by-value _
-
-pub track-and-image : (layout cylinder side length : ℕ) → Unique (IsTrackAndImage layout cylinder side length)
-track-and-image layout cylinder side length = by-value _
+pub tested : (applies : Bool) (gives : Refusal) → Unique (IsTested applies gives)
+tested applies gives = by-value _
 
 pub image-length : (length : ℕ) → Unique (IsImageLength length)
 image-length length = by-value _
@@ -146,6 +127,30 @@ control-record cylinder mark first = by-value _
 
 pub sector-number : (sectors sector : ℕ) → Unique (IsSectorNumber sectors sector)
 sector-number sectors sector = by-value _
+
+-- ---- layouts
+
+-- Layout0::layout to Layout3::layout
+pub layout : (l : Layout) → Unique (IsLayout l)
+layout l = by-value _
+
+pub gap-byte : (mode : Mode) → Unique (IsGapByte mode)
+gap-byte mode = by-value _
+
+pub layout-of : (layout : ℕ) → Unique (IsLayoutOf layout)
+layout-of layout = by-value _
+
+pub track-of : (layout cylinder side : ℕ) → Unique (IsTrack layout cylinder side)
+track-of layout cylinder side = by-value _
+
+pub layout-number : (layout : ℕ) → Unique (IsLayoutNumber layout)
+layout-number layout = by-value _
+
+pub track-numbers : (layout cylinder side : ℕ) → Unique (IsTrackNumbers layout cylinder side)
+track-numbers layout cylinder side = by-value _
+
+pub track-and-image : (layout cylinder side length : ℕ) → Unique (IsTrackAndImage layout cylinder side length)
+track-and-image layout cylinder side length = by-value _
 
 -- ---- format
 

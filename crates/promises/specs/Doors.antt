@@ -9,9 +9,9 @@ use Rattle.cells.specs.Cells.{Bytes}
 use Rattle.format.specs.Order.{Numbered}
 use Rattle.format.specs.Refusals.{formatTests}
 use Rattle.layouts.specs.Layouts.{layoutOf, mostSectors, slotIn}
-use Rattle.layouts.specs.Refusals.{refusalNumber}
+use Rattle.calls.specs.Refusals.{refusalNumber}
 use Rattle.layouts.specs.Tracks.{trackOf}
-use Rattle.layouts.specs.declared.Refusal.{Refusal}
+use Rattle.calls.specs.declared.Refusal.{Refusal}
 use Rattle.layouts.specs.declared.Track.{Track}
 use Rattle.read.specs.Outcomes.{readTests}
 use Rattle.pick.specs.Picks.{pickTests}

@@ -6,8 +6,8 @@ use Prim.Native.Nat.{ℕ, _≤_}
 use lib.ListN.{length, replicate}
 use Rattle.layouts.specs.Layouts.{layoutOf, slotIn}
 use Rattle.layouts.specs.declared.Layout.{Layout}
-use Rattle.layouts.specs.declared.Checked.the-variants.{Passed, Refused}
-use Rattle.layouts.specs.declared.Refusal.{Refusal}
+use Rattle.calls.specs.declared.Checked.the-variants.{Passed, Refused}
+use Rattle.calls.specs.declared.Refusal.{Refusal}
 use Rattle.layouts.specs.declared.Track.{Track}
 use Rattle.format.specs.Order.{Numbered}
 use Rattle.answers.specs.Answers.{answerNumber, carries}

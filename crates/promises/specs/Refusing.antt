@@ -5,10 +5,10 @@ use Prim.Native.Nat.{ℕ, _≤_}
 use lib.ListN.{length}
 use Rattle.format.specs.Outcomes.{Formats}
 use Rattle.format.specs.Refusals.{formatTests}
-use Rattle.layouts.specs.Refusals.{checkedNumber, refusalNumber}
+use Rattle.calls.specs.Refusals.{checkedNumber, refusalNumber}
 use Rattle.layouts.specs.Tracks.{trackOf}
-use Rattle.layouts.specs.declared.Checked.{Checked}
-use Rattle.layouts.specs.declared.Refusal.{Refusal}
+use Rattle.calls.specs.declared.Checked.{Checked}
+use Rattle.calls.specs.declared.Refusal.{Refusal}
 use Rattle.read.specs.Records.{Sector}
 use Rattle.answers.specs.Answers.{answerNumber}
 use Rattle.read.specs.Outcomes.{Reads, readTests}

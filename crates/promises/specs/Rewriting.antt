@@ -8,7 +8,7 @@ use lib.Seq.{sets}
 use Rattle.cells.specs.Cells.{Bytes}
 use Rattle.format.specs.Order.{Numbered}
 use Rattle.format.specs.Outcomes.{Formats}
-use Rattle.layouts.specs.declared.Checked.the-variants.{Passed}
+use Rattle.calls.specs.declared.Checked.the-variants.{Passed}
 use Rattle.layouts.specs.Layouts.{layoutOf}
 use Rattle.layouts.specs.Tracks.{trackOf}
 use Rattle.marks.specs.Marks.{markOf}

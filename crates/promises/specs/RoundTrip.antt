@@ -12,7 +12,7 @@ use Rattle.format.specs.Outcomes.{Formats}
 use Rattle.format.specs.Places.{blockPlace}
 use Rattle.layouts.specs.Layouts.{Every, layoutOf, slotIn}
 use Rattle.layouts.specs.Tracks.{trackOf}
-use Rattle.layouts.specs.declared.Checked.the-variants.{Passed}
+use Rattle.calls.specs.declared.Checked.the-variants.{Passed}
 use Rattle.layouts.specs.declared.Layout.{Layout}
 use Rattle.layouts.specs.declared.Track.{Track}
 use Rattle.answers.specs.Answers.{answerNumber}

@@ -5,7 +5,8 @@ use Prim.Native.Nat.{ℕ, _*_}
 use borrow.Author.Needs.{needs}
 use borrow.Author.Tests.{eqb-true, not-false}
 use Rattle.layouts.specs.Layouts.{layoutOf}
-use Rattle.layouts.specs.Refusals.{areaTest, readingTests}
+use Rattle.calls.specs.Refusals.{areaTest}
+use Rattle.layouts.specs.Refusals.{readingTests}
 use Rattle.layouts.proofs.Layouts.{every-layout, adds}
 use Rattle.walk.proofs.Passing.{Readable, readable}
 use Rattle.verdicts.specs.Tests.{passed, refusal}

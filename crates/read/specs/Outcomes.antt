@@ -6,10 +6,11 @@ use lib.ListN.{length, replicate}
 use Rattle.answers.specs.Answers.{unreadRecords}
 use Rattle.cells.specs.Cells.{cell}
 use Rattle.layouts.specs.Layouts.{layoutOf}
-use Rattle.layouts.specs.Refusals.{areaTest, readingTests}
+use Rattle.calls.specs.Refusals.{areaTest}
+use Rattle.layouts.specs.Refusals.{readingTests}
 use Rattle.layouts.specs.Tracks.{trackOf}
-use Rattle.layouts.specs.declared.Checked.the-variants as checked
-use Rattle.layouts.specs.declared.Refusal.{Refusal}
+use Rattle.calls.specs.declared.Checked.the-variants as checked
+use Rattle.calls.specs.declared.Refusal.{Refusal}
 use Rattle.layouts.specs.declared.Track.{Track}
 use Rattle.verdicts.specs.Tests.{Test, refusal, by}
 use Rattle.walk.specs.Events.{bads, foreigns}

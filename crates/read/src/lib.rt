@@ -1,6 +1,6 @@
 // The reader: what a track's image holds, sector by sector. What can't be read is reported.
 use answers::Records;
-use layouts::Checked;
+use calls::Checked;
 ghost use lib.ListN.{length};
 ghost use Rattle.read.specs.Outcomes.{Reads};
 

@@ -1,7 +1,7 @@
 // The refusals of read, in the papers' order: the first test that applies.
-use layouts::Checked;
+use calls::Checked;
 ghost use mathlib.Core.Path.{_≡_};
-ghost use Rattle.layouts.specs.Refusals.{told};
+ghost use Rattle.calls.specs.Refusals.{told};
 ghost use Rattle.verdicts.specs.Tests.{refusal};
 ghost use Rattle.read.specs.Outcomes.{readTests};
 
@@ -20,5 +20,5 @@ pub(crate) fn read_tested(
         return first;
     };
     let taken = layouts::layout_of(layout);
-    layouts::area_length(taken.area_bytes, area)
+    calls::area_length(taken.area_bytes, area)
 }

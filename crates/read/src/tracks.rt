@@ -2,7 +2,7 @@
 use super::Reading;
 use super::blocks::next_record;
 use answers::Record;
-use layouts::Checked;
+use calls::Checked;
 use layouts::Track;
 use walk::Block;
 use walk::Event;

@@ -10,13 +10,13 @@ use lib.ListN.{length}
 use types.Run.{OneOf}
 use denote.Enum.Declared.{tagOf}
 use Rattle.cells.specs.Cells.{cell}
-use Rattle.layouts.specs.Refusals.{told}
+use Rattle.calls.specs.Refusals.{told}
 use Rattle.layouts.specs.Tracks.{trackOf}
-use Rattle.layouts.specs.declared.Refusal.{Refusal}
-use Rattle.layouts.specs.declared.Refusal.the-variants.{Unreadable, OffBoundary}
-use Rattle.layouts.specs.declared.Checked.{Checked}
-use Rattle.layouts.specs.declared.Checked.the-variants.{Passed, Refused}
-use Rattle.layouts.proofs.Refusals.{told-passed, then-refused, answer-refused}
+use Rattle.calls.specs.declared.Refusal.{Refusal}
+use Rattle.calls.specs.declared.Refusal.the-variants.{Unreadable, OffBoundary}
+use Rattle.calls.specs.declared.Checked.{Checked}
+use Rattle.calls.specs.declared.Checked.the-variants.{Passed, Refused}
+use Rattle.calls.proofs.Refusals.{told-passed, then-refused, answer-refused}
 use Rattle.verdicts.specs.Tests.{Verdict, passed, refusal, by}
 use Rattle.verdicts.proofs.Tests.{append-passed, passed-both}
 use Rattle.locate.specs.Outcomes.{locateTests, found, Locates}

@@ -2,7 +2,7 @@
 use mathlib.Core.List.{List}
 use mathlib.Core.Path.{_≡_}
 use Prim.Native.Nat.{ℕ}
-use Rattle.layouts.specs.Refusals.{refusalNumber}
+use Rattle.calls.specs.Refusals.{refusalNumber}
 use Rattle.rewrite.specs.declared.Plan.{Plan}
 use Rattle.verdicts.specs.Tests.{refusal, by}
 use Rattle.locate.specs.Outcomes.{found}

@@ -5,10 +5,10 @@ use Prim.Native.Nat.{ℕ, _%_}
 use lib.Dec.{eqb}
 use lib.ListN.{length, getD}
 use Rattle.layouts.specs.Layouts.{layoutOf}
-use Rattle.layouts.specs.Refusals.{areaTest, markTest, controlTest}
+use Rattle.calls.specs.Refusals.{areaTest, markTest, controlTest}
 use Rattle.layouts.specs.declared.Layout.{Layout}
-use Rattle.layouts.specs.declared.Refusal.{Refusal}
-use Rattle.layouts.specs.declared.Refusal.the-variants.{Unreadable, OffBoundary}
+use Rattle.calls.specs.declared.Refusal.{Refusal}
+use Rattle.calls.specs.declared.Refusal.the-variants.{Unreadable, OffBoundary}
 use Rattle.verdicts.specs.Tests.{Test}
 use Rattle.locate.specs.Outcomes.{locateTests, found}
 use Rattle.walk.specs.declared.Block.the-variants.{Missing, Beyond, Within}

@@ -1,6 +1,6 @@
 // The request for the rewrite of a sector: a plan that notes where its block is, by which the steps then make their stores.
-use layouts::Checked;
-use layouts::Refusal;
+use calls::Checked;
+use calls::Refusal;
 use rewrite::Plan;
 ghost use Rattle.request.specs.Outcomes.{Requests};
 

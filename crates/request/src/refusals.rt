@@ -1,14 +1,14 @@
 // The refusals of a request, in the papers' order: the first test that applies. What a request says by itself is tested before the image is walked.
 use super::Requested;
-use layouts::Checked;
+use calls::Checked;
+use calls::Refusal;
 use layouts::Layout;
-use layouts::Refusal;
 use locate::Located;
 use rewrite::Plan;
 use walk::Block;
 ghost use mathlib.Core.Path.{_≡_};
 ghost use Prim.Native.Nat.{_≤_, _<_};
-ghost use Rattle.layouts.specs.Refusals.{told};
+ghost use Rattle.calls.specs.Refusals.{told};
 ghost use Rattle.verdicts.specs.Tests.{refusal, by};
 ghost use Rattle.request.specs.Refusals.{contentsTests, callTests, cellOf, placeTests};
 ghost use Rattle.request.specs.Outcomes.{firstPlan};
@@ -19,15 +19,15 @@ fn contents_tests(layout: Layout, cylinder: u32, mark: u32, contents: &[u8]) -> 
     requires { ⌜ 1 ≤ layout .size ⌝ }
     ensures { λ r. ⌜ r ≡ told (refusal (contentsTests layout cylinder mark (now (contents .entry)))) ⌝ }
 {
-    let area = layouts::area_length(layout.size, contents.len());
+    let area = calls::area_length(layout.size, contents.len());
     let Checked::Passed = area else {
         return area;
     };
-    let byte = layouts::mark_byte(mark);
+    let byte = calls::mark_byte(mark);
     let Checked::Passed = byte else {
         return byte;
     };
-    layouts::control_record(cylinder, mark, contents[0])
+    calls::control_record(cylinder, mark, contents[0])
 }
 
 // 2, 3, 4, 1, 9 and those: the tests of a request that need no walk. `length` is that of the image.
@@ -47,7 +47,7 @@ pub(crate) fn call_tests(
         return first;
     };
     let taken = layouts::layout_of(layout);
-    let number = layouts::sector_number(taken.sectors, sector);
+    let number = calls::sector_number(taken.sectors, sector);
     let Checked::Passed = number else {
         return number;
     };

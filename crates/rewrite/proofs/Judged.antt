@@ -9,13 +9,14 @@ use lib.Dec.{eqb, leb}
 use lib.ListN.{length, getD}
 use Rattle.cells.specs.Cells.{cell}
 use Rattle.layouts.specs.Layouts.{layoutOf, blockCells}
-use Rattle.layouts.specs.Refusals.{told, longestImage, imageTest, numberTest, areaTest, markTest}
+use Rattle.calls.specs.Refusals.{told, longestImage, imageTest, areaTest, markTest}
+use Rattle.layouts.specs.Refusals.{numberTest}
 use Rattle.layouts.specs.declared.Layout.{Layout}
-use Rattle.layouts.specs.declared.Refusal.{Refusal}
-use Rattle.layouts.specs.declared.Refusal.the-variants.{Finished, NoBlock}
-use Rattle.layouts.specs.declared.Checked.{Checked}
-use Rattle.layouts.specs.declared.Checked.the-variants.{Passed, Refused}
-use Rattle.layouts.proofs.Refusals.{or-right, told-passed, then-passed, answer-refused, answer-passed}
+use Rattle.calls.specs.declared.Refusal.{Refusal}
+use Rattle.calls.specs.declared.Refusal.the-variants.{Finished, NoBlock}
+use Rattle.calls.specs.declared.Checked.{Checked}
+use Rattle.calls.specs.declared.Checked.the-variants.{Passed, Refused}
+use Rattle.calls.proofs.Refusals.{or-right, told-passed, then-passed, answer-refused, answer-passed}
 use Rattle.marks.specs.Marks.{markByte, markOf}
 use Rattle.marks.specs.declared.Mark.the-variants.{Data, Control}
 use Rattle.search.specs.Search.{blockMarks, isFound, standing, isStanding}

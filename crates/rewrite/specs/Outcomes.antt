@@ -4,7 +4,8 @@ use mathlib.Core.Path.{_≡_}
 use Prim.Native.Nat.{ℕ, _+_}
 use lib.ListN.{getD}
 use Rattle.layouts.specs.Layouts.{layoutOf}
-use Rattle.layouts.specs.Refusals.{refusalNumber, numberTest}
+use Rattle.calls.specs.Refusals.{refusalNumber}
+use Rattle.layouts.specs.Refusals.{numberTest}
 use Rattle.verdicts.specs.Tests.{refusal, by}
 use Rattle.rewrite.specs.Stores.{stored, noStore, storeCount}
 use Rattle.rewrite.specs.Refusals.{planned, stepTests}

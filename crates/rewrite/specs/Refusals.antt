@@ -6,10 +6,11 @@ use lib.Dec.{eqb, leb}
 use lib.ListN.{length}
 use Rattle.cells.specs.Cells.{cell}
 use Rattle.layouts.specs.Layouts.{layoutOf, blockCells}
-use Rattle.layouts.specs.Refusals.{imageTest, numberTest, areaTest, markTest}
+use Rattle.calls.specs.Refusals.{imageTest, areaTest, markTest}
+use Rattle.layouts.specs.Refusals.{numberTest}
 use Rattle.layouts.specs.declared.Layout.{Layout}
-use Rattle.layouts.specs.declared.Refusal.{Refusal}
-use Rattle.layouts.specs.declared.Refusal.the-variants.{Finished, NoBlock}
+use Rattle.calls.specs.declared.Refusal.{Refusal}
+use Rattle.calls.specs.declared.Refusal.the-variants.{Finished, NoBlock}
 use Rattle.marks.specs.Marks.{markOf}
 use Rattle.search.specs.Search.{blockMarks, isStanding}
 use Rattle.verdicts.specs.Tests.{Test}

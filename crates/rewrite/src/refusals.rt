@@ -2,14 +2,14 @@
 use super::Plan;
 use super::values::block_end;
 use super::values::count_of;
-use layouts::Checked;
+use calls::Checked;
+use calls::Refusal;
 use layouts::Layout;
-use layouts::Refusal;
 use search::BLOCK_MARKS;
 use search::Found;
 ghost use mathlib.Core.Path.{_≡_};
 ghost use Prim.Native.Nat.{_≤_, _<_};
-ghost use Rattle.layouts.specs.Refusals.{told};
+ghost use Rattle.calls.specs.Refusals.{told};
 ghost use Rattle.marks.specs.Outcomes.{Housed};
 ghost use Rattle.verdicts.specs.Tests.{refusal};
 ghost use Rattle.rewrite.specs.Refusals.{holdsBlock, planTests};
@@ -47,15 +47,15 @@ pub(crate) fn plan_tests(
     let Checked::Passed = number else {
         return number;
     };
-    let length = layouts::image_length(image.len());
+    let length = calls::image_length(image.len());
     let Checked::Passed = length else {
         return length;
     };
-    let area = layouts::area_length(layout.size, contents.len());
+    let area = calls::area_length(layout.size, contents.len());
     let Checked::Passed = area else {
         return area;
     };
-    let byte = layouts::mark_byte(mark);
+    let byte = calls::mark_byte(mark);
     let Checked::Passed = byte else {
         return byte;
     };

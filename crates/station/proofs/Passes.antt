@@ -9,9 +9,9 @@ use lib.Dec.{eqb, leb}
 use lib.ListN.{getD, length, take, drop, replicate, getD-replicate}
 use Rattle.cells.specs.Cells.{cell}
 use Rattle.layouts.specs.Layouts.{layoutOf, mostSectors}
-use Rattle.layouts.specs.Refusals.{told}
+use Rattle.calls.specs.Refusals.{told}
 use Rattle.layouts.specs.Tracks.{trackOf}
-use Rattle.layouts.specs.declared.Refusal.{Refusal}
+use Rattle.calls.specs.declared.Refusal.{Refusal}
 use Rattle.layouts.specs.declared.Track.{Track}
 use Rattle.answers.specs.Answers.{answerOf, unread}
 use Rattle.read.specs.Records.{sectorOf, recordsOf}

@@ -3,7 +3,7 @@ use mathlib.Core.Path.{_≡_, refl, sym, subst}
 use Prim.Native.Nat.{ℕ, _-_, _*_, _≤_}
 use native.Mathlib.Omega.{arith}
 use Rattle.layouts.specs.Layouts.{layoutOf, mostSectors}
-use Rattle.layouts.specs.declared.Refusal.{Refusal}
+use Rattle.calls.specs.declared.Refusal.{Refusal}
 use Rattle.verdicts.specs.Tests.{Verdict, passed, refused, refusal, by}
 use Rattle.pick.specs.Picks.{pickTests, choice, chosenOf}
 use Rattle.answers.specs.declared.Record.{Record}

@@ -10,8 +10,8 @@ use Rattle.edc.specs.Register.{edcOf}
 use Rattle.format.specs.Outcomes.{formatImage}
 use Rattle.format.specs.Refusals.{formatTests}
 use Rattle.layouts.specs.Layouts.{layoutOf}
-use Rattle.layouts.specs.Refusals.{refusalNumber}
-use Rattle.layouts.specs.declared.Refusal.{Refusal}
+use Rattle.calls.specs.Refusals.{refusalNumber}
+use Rattle.calls.specs.declared.Refusal.{Refusal}
 use Rattle.read.specs.Outcomes.{readTests, readAnswer, readArea}
 use Rattle.rewrite.specs.Outcomes.{storesInAll, stepAnswer, stepImage, steppedNumber}
 use Rattle.request.specs.Outcomes.{requestAnswer, requestedNumber}

@@ -3,7 +3,7 @@ use mathlib.Core.List.{List, [], _∷_}
 use Prim.Native.Nat.{ℕ, _-_, _*_, _≤_}
 use lib.ListN.{length, replicate}
 use Rattle.layouts.specs.Layouts.{mostSectors}
-use Rattle.layouts.specs.Refusals.{refusalNumber}
+use Rattle.calls.specs.Refusals.{refusalNumber}
 use Rattle.layouts.specs.declared.Layout.{Layout}
 use Rattle.answers.specs.Answers.{answerNumber}
 use Rattle.pick.specs.Picks.{chosenOf}

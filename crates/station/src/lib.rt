@@ -65,7 +65,7 @@ pub extern "C" fn station_format(
     ensures { λ r. ⌜ GivesFormat layout cylinder side (now («data» .entry)) (now (marks .entry)) (now (image .entry)) r (now (image .exit)) ⌝ }
 {
     let answer = format::format(layout, cylinder, side, data, marks, image);
-    layouts::checked_number(answer)
+    calls::checked_number(answer)
 }
 
 // Reads a track: 0, or the number of the refusal. `area` gets a slot for each sector number, `answers` the papers' numbers by sector and 0 past
@@ -86,7 +86,7 @@ pub extern "C" fn station_read(
     *answers = records::list_of(reading.sectors, reading.records);
     *counts = [reading.bad, reading.foreign];
     let verdict = reading.verdict;
-    layouts::checked_number(verdict)
+    calls::checked_number(verdict)
 }
 
 // Picks a sector from two passes over one track: the number of its answer, or of the refusal. Each pass is the area and the answers that

@@ -43,7 +43,7 @@ pub(crate) fn request_number(answer: Requested) -> u8
 {
     match answer {
         Requested::Planned(_) => 0,
-        Requested::Refused(refusal) => layouts::refusal_number(refusal),
+        Requested::Refused(refusal) => calls::refusal_number(refusal),
     }
 }
 
@@ -57,6 +57,6 @@ pub(crate) fn move_on(answer: Stepped, bytes: usize, plan: &mut [u32; 4]) -> u8
             *plan = plan_numbers(next, bytes);
             0
         }
-        Stepped::Refused(refusal) => layouts::refusal_number(refusal),
+        Stepped::Refused(refusal) => calls::refusal_number(refusal),
     }
 }

@@ -13,7 +13,7 @@ pub(crate) fn pick_number(picked: Choice) -> u8
         Choice::First(record) => record_number(record),
         Choice::Second(record) => record_number(record),
         Choice::Neither(record) => record_number(record),
-        Choice::Refused(refusal) => layouts::refusal_number(refusal),
+        Choice::Refused(refusal) => calls::refusal_number(refusal),
     }
 }
 

@@ -5,9 +5,11 @@ use Prim.Native.Nat.{ℕ, _≤_}
 use borrow.Author.Tests.{ltb-false}
 use lib.Dec.{eqb, ltb}
 use Rattle.layouts.specs.Layouts.{highest}
-use Rattle.layouts.specs.Refusals.{longestImage, imageTest, trackTests, readingTests}
+use Rattle.calls.specs.Refusals.{longestImage, imageTest}
+use Rattle.layouts.specs.Refusals.{trackTests, readingTests}
 use Rattle.layouts.specs.Tracks.{highestCylinder, highestSide}
-use Rattle.layouts.proofs.Refusals.{or-right, track-known}
+use Rattle.calls.proofs.Refusals.{or-right}
+use Rattle.layouts.proofs.Tracks.{track-known}
 use Rattle.verdicts.specs.Tests.{passed, refusal}
 use Rattle.verdicts.proofs.Tests.{passed-both, first-passed}
 

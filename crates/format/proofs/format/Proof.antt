@@ -7,7 +7,7 @@ use borrow.Author.Needs.{needs}
 use Rattle.verdicts.specs.Tests.{by}
 use Rattle.layouts.specs.Layouts.{layoutOf, Every}
 use Rattle.layouts.specs.declared.Track.{Track}
-use Rattle.layouts.proofs.Refusals.{told-passed, answer-refused}
+use Rattle.calls.proofs.Refusals.{told-passed, answer-refused}
 use Rattle.format.specs.Order.{Numbered}
 use Rattle.format.proofs.Parts.{length-numbers, numbered, natural}
 use Rattle.format.proofs.Accepted.{usable, accepted, in-natural-order}

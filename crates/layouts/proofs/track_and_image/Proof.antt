@@ -2,7 +2,7 @@
 use mathlib.Core.Path.{_∙_}
 use borrow.Author.Needs.{needs}
 use Rattle.layouts.specs.Refusals.{readingTests}
-use Rattle.layouts.proofs.Refusals.{then-refused, then-passed}
+use Rattle.calls.proofs.Refusals.{then-refused, then-passed}
 use Rattle.layouts.proofs.track_and_image.Statement.{statement}
 use Rattle.layouts.proofs.track_and_image.Tie as tie
 

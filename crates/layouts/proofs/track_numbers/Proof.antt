@@ -2,7 +2,8 @@
 use borrow.Author.Needs.{needs}
 use borrow.Author.Tests.{lt-ltb, le-ltb}
 use Rattle.verdicts.specs.Tests.{refusal, by}
-use Rattle.layouts.specs.Refusals.{told, trackTests}
+use Rattle.calls.specs.Refusals.{told}
+use Rattle.layouts.specs.Refusals.{trackTests}
 use Rattle.layouts.proofs.track_numbers.Statement.{statement}
 use Rattle.layouts.proofs.track_numbers.Tie as tie
 

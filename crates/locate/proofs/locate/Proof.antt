@@ -3,7 +3,7 @@ use mathlib.Core.Path.{ap, _∙_}
 use native.Mathlib.Omega.{arith}
 use denote.Ref.{now}
 use Rattle.layouts.specs.declared.Track.{Track}
-use Rattle.layouts.proofs.Refusals.{told-passed, answer-refused, answer-passed}
+use Rattle.calls.proofs.Refusals.{told-passed, answer-refused, answer-passed}
 use Rattle.verdicts.proofs.Tests.{passed-both}
 use Rattle.walk.specs.Events.{blocks}
 use Rattle.locate.specs.Outcomes.{located, locateTests}

@@ -1,6 +1,6 @@
 -- `choose` meets its contract: the tests decide, and then the records.
 use mathlib.Core.Path.{_∙_}
-use Rattle.layouts.proofs.Refusals.{answer-refused, answer-passed}
+use Rattle.calls.proofs.Refusals.{answer-refused, answer-passed}
 use Rattle.pick.specs.Picks.{chosenOf}
 use borrow.Author.Needs.{needs}
 use Rattle.pick.proofs.choose.Statement.{statement}

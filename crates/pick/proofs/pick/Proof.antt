@@ -3,7 +3,7 @@ use mathlib.Core.Path.{ap, ap₂, _∙_}
 use denote.Ref.{now}
 use Rattle.layouts.specs.Layouts.{layoutOf}
 use Rattle.layouts.specs.declared.Layout.{Layout}
-use Rattle.layouts.proofs.Refusals.{told-passed, answer-refused, answer-passed}
+use Rattle.calls.proofs.Refusals.{told-passed, answer-refused, answer-passed}
 use Rattle.pick.specs.Picks.{choice, chosenOf, stretchIn}
 use Rattle.pick.specs.declared.Choice.{Choice}
 use Rattle.pick.proofs.Picking.{pickable}

@@ -1,6 +1,6 @@
 -- `picked` meets its contract: the tests decide, and then the records.
 use mathlib.Core.Path.{ap₂, _∙_}
-use Rattle.layouts.proofs.Refusals.{told-passed, answer-refused, answer-passed}
+use Rattle.calls.proofs.Refusals.{told-passed, answer-refused, answer-passed}
 use Rattle.pick.specs.Picks.{chosenOf, choice}
 use Rattle.pick.proofs.Picking.{pickable}
 use borrow.Author.Needs.{needs}

@@ -9,13 +9,14 @@ use lib.ListN.{length}
 use Rattle.cells.specs.Cells.{cell, Bytes}
 use Rattle.format.specs.Order.{Numbered, formatted}
 use Rattle.format.specs.Refusals.{formTests, formatTests}
-use Rattle.layouts.specs.declared.Checked.the-variants.{Passed}
-use Rattle.layouts.proofs.Refusals.{told-passed}
+use Rattle.calls.specs.declared.Checked.the-variants.{Passed}
+use Rattle.calls.proofs.Refusals.{told-passed}
 use Rattle.format.proofs.Accepted.{Accepted, accepted}
 use Rattle.format.proofs.Judged.{passed-by}
 use Rattle.format.proofs.Parts.{slots, length-numbers, length-fields, numbered}
 use Rattle.layouts.specs.Layouts.{layoutOf, mostSectors, numbers, slotIn}
-use Rattle.layouts.specs.Refusals.{longestImage, imageTest, areaTest, trackTests, readingTests}
+use Rattle.calls.specs.Refusals.{longestImage, imageTest, areaTest}
+use Rattle.layouts.specs.Refusals.{trackTests, readingTests}
 use Rattle.layouts.specs.Tracks.{trackOf}
 use Rattle.layouts.specs.declared.Layout.{Layout}
 use Rattle.layouts.specs.declared.Track.{Track}

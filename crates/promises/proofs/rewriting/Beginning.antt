@@ -6,11 +6,12 @@ use native.Mathlib.Omega.{arith}
 use borrow.Author.Tests.{ne-eqb, le-ltb}
 use lib.ListN.{length}
 use Rattle.format.specs.Refusals.{formatTests}
-use Rattle.layouts.specs.declared.Checked.the-variants.{Passed}
-use Rattle.layouts.proofs.Refusals.{told-passed}
+use Rattle.calls.specs.declared.Checked.the-variants.{Passed}
+use Rattle.calls.proofs.Refusals.{told-passed}
 use Rattle.format.proofs.Judged.{passed-by}
 use Rattle.layouts.specs.Layouts.{layoutOf}
-use Rattle.layouts.specs.Refusals.{areaTest, sectorTest, readingTests}
+use Rattle.calls.specs.Refusals.{areaTest, sectorTest}
+use Rattle.layouts.specs.Refusals.{readingTests}
 use Rattle.layouts.specs.Tracks.{trackOf}
 use Rattle.read.specs.Outcomes.{readTests}
 use Rattle.verdicts.specs.Tests.{passed, refusal, by}

@@ -7,10 +7,12 @@ use Prim.Native.Nat.{ℕ, _%_, _≤_}
 use borrow.Author.Tests.{eq-eqb, eqb-true, not-false}
 use lib.ListN.{length}
 use Rattle.layouts.specs.Layouts.{highest, layoutOf}
-use Rattle.layouts.specs.Refusals.{imageTest, readingTests, trackTests}
+use Rattle.calls.specs.Refusals.{imageTest}
+use Rattle.layouts.specs.Refusals.{readingTests, trackTests}
 use Rattle.layouts.specs.Tracks.{trackOf}
-use Rattle.layouts.specs.declared.Refusal.{Refusal}
-use Rattle.layouts.proofs.Refusals.{track-known, sector-known}
+use Rattle.calls.specs.declared.Refusal.{Refusal}
+use Rattle.layouts.proofs.Tracks.{track-known}
+use Rattle.calls.proofs.Refusals.{sector-known}
 use Rattle.request.specs.Refusals.{isWithin, cellOf, contentsTests, callTests, placeTests, requestTests}
 use Rattle.request.specs.Outcomes.{Requests, firstPlan}
 use Rattle.rewrite.specs.declared.Plan.{Plan}

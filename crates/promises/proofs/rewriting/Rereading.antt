@@ -9,7 +9,8 @@ use lib.ListN.{length, set}
 use lib.Seq.{sets}
 use Rattle.cells.specs.Cells.{cell}
 use Rattle.layouts.specs.Layouts.{layoutOf, mostSectors}
-use Rattle.layouts.specs.Refusals.{areaTest, readingTests}
+use Rattle.calls.specs.Refusals.{areaTest}
+use Rattle.layouts.specs.Refusals.{readingTests}
 use Rattle.layouts.specs.Tracks.{trackOf}
 use Rattle.layouts.specs.declared.Layout.{Layout}
 use Rattle.layouts.specs.declared.Track.{Track}

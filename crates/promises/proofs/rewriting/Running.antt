@@ -13,11 +13,12 @@ use lib.Seq.{getD-set-other}
 use Rattle.cells.specs.Cells.{cell}
 use Rattle.cells.proofs.Joined.{cell-lt}
 use Rattle.layouts.specs.Layouts.{highest, layoutOf, blockCells}
-use Rattle.layouts.specs.Refusals.{imageTest, numberTest, areaTest, markTest}
+use Rattle.calls.specs.Refusals.{imageTest, areaTest, markTest}
+use Rattle.layouts.specs.Refusals.{numberTest}
 use Rattle.layouts.specs.Tracks.{trackOf}
 use Rattle.layouts.specs.declared.Layout.{Layout}
-use Rattle.layouts.specs.declared.Refusal.{Refusal}
-use Rattle.layouts.specs.declared.Refusal.the-variants.{Finished}
+use Rattle.calls.specs.declared.Refusal.{Refusal}
+use Rattle.calls.specs.declared.Refusal.the-variants.{Finished}
 use Rattle.verdicts.specs.Tests.{Test, passed, refused, refusal, by}
 use Rattle.verdicts.proofs.Tests.{first-passed}
 use Rattle.marks.specs.Marks.{markByte, markOf}

@@ -7,7 +7,7 @@ use denote.Ref.{now}
 use lib.ListN.{length, replicate}
 use Rattle.cells.specs.Cells.{cell}
 use Rattle.layouts.specs.declared.Track.{Track}
-use Rattle.layouts.proofs.Refusals.{told-passed, answer-refused, answer-passed}
+use Rattle.calls.proofs.Refusals.{told-passed, answer-refused, answer-passed}
 use Rattle.walk.specs.Outcomes.{met}
 use Rattle.read.specs.Records.{areaOf}
 use Rattle.read.specs.Outcomes.{reading, refusedReading, readAnswer, readArea}

@@ -3,7 +3,7 @@ use mathlib.Core.Path.{ap, _∙_}
 use Prim.Native.Nat.{_≤_}
 use native.Mathlib.Omega.{arith}
 use Rattle.layouts.specs.declared.Layout.{Layout}
-use Rattle.layouts.proofs.Refusals.{answer-refused, answer-passed}
+use Rattle.calls.proofs.Refusals.{answer-refused, answer-passed}
 use Rattle.rewrite.specs.Stores.{storeCount}
 use Rattle.rewrite.proofs.Counted.{size-small, count-most}
 use borrow.Author.Needs.{needs}

@@ -1,7 +1,7 @@
 -- `station_format` meets its contract: the answer of `format`, by its number.
 use mathlib.Core.Path.{ap, _∙_}
-use Rattle.layouts.specs.Refusals.{checkedNumber}
-use Rattle.layouts.proofs.Refusals.{number-told}
+use Rattle.calls.specs.Refusals.{checkedNumber}
+use Rattle.calls.proofs.Refusals.{number-told}
 use borrow.Author.Needs.{needs}
 use Rattle.station.proofs.station_format.Statement.{statement}
 use Rattle.station.proofs.station_format.Tie as tie

@@ -1,8 +1,8 @@
 -- `station_read` meets its contract: what `read` answers, in numbers.
 use mathlib.Core.Path.{ap, _∙_}
 use mathlib.Core.List.{[], _∷_}
-use Rattle.layouts.specs.Refusals.{checkedNumber}
-use Rattle.layouts.proofs.Refusals.{number-told}
+use Rattle.calls.specs.Refusals.{checkedNumber}
+use Rattle.calls.proofs.Refusals.{number-told}
 use Rattle.read.specs.declared.Reading.{Reading}
 use Rattle.station.specs.Records.{recordList}
 use Rattle.station.proofs.Passes.{read-told}

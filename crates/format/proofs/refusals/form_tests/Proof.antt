@@ -1,6 +1,6 @@
 -- `form_tests` meets its contract: the image is tested after the track, by the laws of tests that follow tests.
 use borrow.Author.Needs.{needs}
-use Rattle.layouts.proofs.Refusals.{then-refused}
+use Rattle.calls.proofs.Refusals.{then-refused}
 use Rattle.format.specs.Refusals.{formTests}
 use Rattle.format.proofs.Judged.{form-wrong, form-right}
 use Rattle.format.proofs.refusals.form_tests.Statement.{statement}

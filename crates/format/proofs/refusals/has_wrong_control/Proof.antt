@@ -7,7 +7,7 @@ use native.Mathlib.Omega.{arith}
 use denote.Ref.{now}
 use lib.ListN.{length, getD}
 use Rattle.layouts.specs.Layouts.{numbers}
-use Rattle.layouts.specs.Refusals.{controlTest}
+use Rattle.calls.specs.Refusals.{controlTest}
 use Rattle.format.specs.Refusals.{some, controlsTest}
 use Rattle.format.proofs.Judged.{one-refused, one-passed, number-hit, number-miss, number-end, control-at}
 use Rattle.format.proofs.Turns.{left-step, next}

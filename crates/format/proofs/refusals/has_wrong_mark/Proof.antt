@@ -4,7 +4,7 @@ use mathlib.Core.Path.{_≡_, sym, _∙_}
 use native.Mathlib.Omega.{arith}
 use denote.Ref.{now}
 use lib.ListN.{length, drop}
-use Rattle.layouts.specs.Refusals.{markTest}
+use Rattle.calls.specs.Refusals.{markTest}
 use Rattle.format.specs.Refusals.{some, marksTest}
 use Rattle.format.proofs.Judged.{one-refused, one-passed, marks-few, marks-each, some-hit, some-miss, some-end}
 use borrow.Author.Needs.{needs}

@@ -1,6 +1,6 @@
 -- `tested` meets its contract: the contents are tested after the form.
 use mathlib.Core.Path.{sym, subst, _∙_}
-use Rattle.layouts.proofs.Refusals.{then-refused, then-passed}
+use Rattle.calls.proofs.Refusals.{then-refused, then-passed}
 use Rattle.format.specs.Refusals.{formatTests}
 use Rattle.format.proofs.Accepted.{Usable, usable}
 use borrow.Author.Needs.{needs}

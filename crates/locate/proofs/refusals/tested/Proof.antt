@@ -1,9 +1,9 @@
 -- `tested` meets its contract: one test follows those of every reading.
 use mathlib.Core.Path.{ap, _∙_}
 use mathlib.Core.List.{[], _∷_}
-use Rattle.layouts.specs.Refusals.{told, sectorTest}
+use Rattle.calls.specs.Refusals.{told, sectorTest}
 use Rattle.layouts.specs.declared.Layout.{Layout}
-use Rattle.layouts.proofs.Refusals.{then-refused, then-passed}
+use Rattle.calls.proofs.Refusals.{then-refused, then-passed}
 use Rattle.verdicts.specs.Tests.{refusal}
 use Rattle.locate.specs.Outcomes.{locateTests}
 use borrow.Author.Needs.{needs}

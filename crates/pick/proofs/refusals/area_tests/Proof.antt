@@ -1,6 +1,6 @@
 -- `area_tests` meets its contract: each test follows those that passed.
 use mathlib.Core.Path.{_∙_}
-use Rattle.layouts.proofs.Refusals.{then-refused, then-passed}
+use Rattle.calls.proofs.Refusals.{then-refused, then-passed}
 use Rattle.pick.specs.Picks.{areaTests}
 use borrow.Author.Needs.{needs}
 use Rattle.pick.proofs.refusals.area_tests.Statement.{statement}

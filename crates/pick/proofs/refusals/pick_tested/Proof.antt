@@ -1,8 +1,8 @@
 -- `pick_tested` meets its contract: the areas are tested after the layout's number.
 use mathlib.Core.Path.{ap, _∙_}
-use Rattle.layouts.specs.Refusals.{told}
+use Rattle.calls.specs.Refusals.{told}
 use Rattle.layouts.specs.declared.Layout.{Layout}
-use Rattle.layouts.proofs.Refusals.{then-refused, then-passed}
+use Rattle.calls.proofs.Refusals.{then-refused, then-passed}
 use Rattle.verdicts.specs.Tests.{refusal}
 use Rattle.pick.specs.Picks.{areaTests, pickTests}
 use borrow.Author.Needs.{needs}

@@ -1,9 +1,9 @@
 -- `read_tested` meets its contract: one test follows those of every reading.
 use mathlib.Core.Path.{ap, _∙_}
 use mathlib.Core.List.{[], _∷_}
-use Rattle.layouts.specs.Refusals.{told, areaTest}
+use Rattle.calls.specs.Refusals.{told, areaTest}
 use Rattle.layouts.specs.declared.Layout.{Layout}
-use Rattle.layouts.proofs.Refusals.{then-refused, then-passed}
+use Rattle.calls.proofs.Refusals.{then-refused, then-passed}
 use Rattle.verdicts.specs.Tests.{refusal}
 use Rattle.read.specs.Outcomes.{readTests}
 use borrow.Author.Needs.{needs}

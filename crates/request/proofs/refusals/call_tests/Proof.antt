@@ -2,9 +2,9 @@
 use mathlib.Core.Path.{_≡_, ap, _∙_}
 use mathlib.Core.List.{[], _∷_}
 use denote.Ref.{now}
-use Rattle.layouts.specs.Refusals.{told, sectorTest}
+use Rattle.calls.specs.Refusals.{told, sectorTest}
 use Rattle.layouts.specs.declared.Layout.{Layout}
-use Rattle.layouts.proofs.Refusals.{then-refused, then-passed}
+use Rattle.calls.proofs.Refusals.{then-refused, then-passed}
 use Rattle.verdicts.specs.Tests.{refusal}
 use Rattle.locate.specs.Outcomes.{locateTests}
 use Rattle.request.specs.Refusals.{contentsTests, callTests}

@@ -3,7 +3,7 @@ use mathlib.Core.Path.{_∙_}
 use native.Mathlib.Omega.{arith}
 use denote.Ref.{now}
 use lib.ListN.{length}
-use Rattle.layouts.proofs.Refusals.{told-passed, then-refused, then-passed}
+use Rattle.calls.proofs.Refusals.{told-passed, then-refused, then-passed}
 use Rattle.verdicts.proofs.Tests.{first-passed}
 use Rattle.request.specs.Refusals.{contentsTests}
 use Rattle.rewrite.proofs.Judged.{area-right}

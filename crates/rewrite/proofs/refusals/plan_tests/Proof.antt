@@ -3,7 +3,7 @@ use mathlib.Core.Path.{_∙_}
 use native.Mathlib.Omega.{arith}
 use borrow.Author.Tests.{not-true, not-false}
 use denote.Ref.{now}
-use Rattle.layouts.proofs.Refusals.{then-refused, then-passed}
+use Rattle.calls.proofs.Refusals.{then-refused, then-passed}
 use Rattle.rewrite.specs.Refusals.{planTests}
 use Rattle.rewrite.proofs.Judged.{Handed, handed, no-block, finished, unfinished}
 use borrow.Author.Needs.{needs}

@@ -1,8 +1,8 @@
 -- `tested` meets its contract: each return follows from the flag that led to it.
-use Rattle.layouts.specs.Refusals.{told}
+use Rattle.calls.specs.Refusals.{told}
 use Rattle.verdicts.specs.Tests.{refusal, by}
-use Rattle.layouts.proofs.tested.Statement.{statement}
-use Rattle.layouts.proofs.tested.Tie as tie
+use Rattle.calls.proofs.tested.Statement.{statement}
+use Rattle.calls.proofs.tested.Tie as tie
 
 returns : tie.Need-returns
 unfolding refusal told by

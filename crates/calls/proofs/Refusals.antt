@@ -1,24 +1,21 @@
 -- Laws of the refusals: their numbers tell them apart, by a way back from the number; what is told of tests when more tests follow; and
--- what is known of a track and of a sector once their tests have passed.
+-- what is known of a sector once its test has passed.
 use mathlib.Core.Path.{_≡_, refl, sym, ap, _∙_}
 use mathlib.Core.Bool.{Bool, true, false, _||_}
 use mathlib.Core.List.{List, [], _∷_, _++_}
 use native.Mathlib.Omega.{arith}
 use Prim.Native.Nat.{ℕ, zero, suc, _≤_}
-use borrow.Author.Tests.{ltb-false, not-false}
+use borrow.Author.Tests.{ltb-false}
 use lib.Dec.{eqb, ltb}
 use lib.ListN.{getD}
 use Rattle.verdicts.specs.Tests.{Test, Verdict, passed, refused, refusal, by}
-use Rattle.verdicts.proofs.Tests.{clash, append-passed, append-refused, first-passed, by-map}
-use Rattle.layouts.specs.declared.Refusal.{Refusal}
-use Rattle.layouts.specs.declared.Refusal.the-variants.{ImageLength, CylinderNumber, SideNumber, LayoutNumber, AreaLength, MarkBytes, ControlRecord}
-use Rattle.layouts.specs.declared.Refusal.the-variants.{Overfull, SectorNumber, Unreadable, OffBoundary, Finished, NoBlock}
-use Rattle.layouts.specs.declared.Checked.{Checked}
-use Rattle.layouts.specs.declared.Checked.the-variants.{Passed, Refused}
-use Rattle.layouts.specs.Layouts.{highest}
-use Rattle.layouts.specs.Tracks.{highestCylinder, highestSide}
-use Rattle.layouts.specs.Refusals.{refusalNumber, checkedNumber, told, trackTests, sectorTest}
-use Rattle.layouts.proofs.Layouts.{allowed-known}
+use Rattle.verdicts.proofs.Tests.{clash, append-passed, append-refused, by-map}
+use Rattle.calls.specs.declared.Refusal.{Refusal}
+use Rattle.calls.specs.declared.Refusal.the-variants.{ImageLength, CylinderNumber, SideNumber, LayoutNumber, AreaLength, MarkBytes, ControlRecord}
+use Rattle.calls.specs.declared.Refusal.the-variants.{Overfull, SectorNumber, Unreadable, OffBoundary, Finished, NoBlock}
+use Rattle.calls.specs.declared.Checked.{Checked}
+use Rattle.calls.specs.declared.Checked.the-variants.{Passed, Refused}
+use Rattle.calls.specs.Refusals.{refusalNumber, checkedNumber, told, sectorTest}
 
 -- The refusal of a number.
 refusalOf : ℕ → Refusal
@@ -84,16 +81,6 @@ module _ (xs ys : List (Test Refusal)) (x : Checked) (e : x ≡ told (refusal xs
 
   pub then-passed : x ≡ Passed → told (refusal ys) ≡ told (refusal (xs ++ ys))
   then-passed h = sym (ap told (append-passed xs ys (told-passed (refusal xs) x e h)))
-
--- Where 2, 3 and 4 pass, the layout, the cylinder and the side are among those that there are.
-pub track-known : (layout cylinder side : ℕ) → refusal (trackTests layout cylinder side) ≡ passed
-    → (layout ≤ highest) × (cylinder ≤ highestCylinder) × (side ≤ highestSide)
-unfolding trackTests
-track-known layout cylinder side h =
-    let first = first-passed _ _ h in
-    let second = first-passed _ _ (first .1) in
-    let third = first-passed _ _ (second .1) in
-    (allowed-known layout cylinder side (not-false _ (third .0)), ltb-false _ _ (first .0), ltb-false _ _ (second .0))
 
 -- ---- two conditions, neither of which holds
 
