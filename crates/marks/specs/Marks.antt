@@ -1,6 +1,6 @@
 -- The marks: fixed strings of image bytes, compared at any cell. Three 44 89 and the mark byte are one mark; 44 89 by itself is none.
 -- As in cells, c i is cell i of an image, and n the number of its cells.
-use mathlib.Core.Bool.{Bool, true, cond, _&&_}
+use mathlib.Core.Bool.{Bool, true, false, cond, _&&_}
 use mathlib.Core.List.{List, [], _∷_}
 use Prim.Native.Nat.{ℕ, _+_, _-_, _*_, _%_}
 use lib.Dec.{eqb, leb}
@@ -53,6 +53,14 @@ markLast mode = 2 * markBytes mode - 1
 -- The last image byte of a mark: of the open mark 49 in MFM and 6B in FM.
 unfoldable pub lastByte : Mode → Mark → ℕ
 lastByte mode mark = getD (string mode mark) (markLast mode) 0
+
+-- The marks of a block: data, control and open (01, "How a track is read", step 3, and refusal 13).
+abbrev pub ofBlock : Mark → Bool
+ofBlock Index = false
+ofBlock Identifier = false
+ofBlock Data = true
+ofBlock Control = true
+ofBlock Open = true
 
 -- The mark that a mark byte F8 or FB asks for (004, 7.4.2.4.1).
 abbrev pub markOf : ℕ → Mark

@@ -6,7 +6,7 @@ use Prim.Native.Nat.{ℕ, _*_, _≤_}
 use lib.ListN.{length}
 use Rattle.cells.specs.Cells.{cell}
 use Rattle.cells.specs.declared.Mode.{Mode}
-use Rattle.marks.specs.Marks.{string, markBytes, lastByte, lastBit, markOf, stands, registerAfter}
+use Rattle.marks.specs.Marks.{string, markBytes, lastByte, lastBit, ofBlock, markOf, stands, registerAfter}
 use Rattle.marks.specs.declared.Mark.{Mark}
 
 -- The house bound: an image of at most 2^28 bytes, so that the number of its cells is far from wrapping.
@@ -28,6 +28,10 @@ IsLastByte mode mark answer = answer ≡ lastByte mode mark
 -- `last_bit` answers the last bit of a mark.
 abbrev pub IsLastBit : Mark → ℕ → Type 0
 IsLastBit mark answer = answer ≡ lastBit mark
+
+-- `is_block` answers whether the mark is of a block.
+abbrev pub TellsBlock : Mark → Bool → Type 0
+TellsBlock mark answer = answer ≡ ofBlock mark
 
 -- `stands` answers whether the mark stands at a place of the image.
 abbrev pub TellsStanding : Mode → Mark → List ℕ → ℕ → Bool → Type 0

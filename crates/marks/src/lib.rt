@@ -7,7 +7,7 @@ ghost use lib.ListN.{length};
 ghost use Rattle.cells.specs.Cells.{cell};
 ghost use Rattle.cells.specs.declared.Mode.the-variants.{Fm, Mfm};
 ghost use Rattle.marks.specs.Marks.{spells, lies};
-ghost use Rattle.marks.specs.Outcomes.{Housed, IsString, AreMarkBytes, IsLastByte, IsLastBit, TellsStanding, IsRegisterAfter, IsMarkOf};
+ghost use Rattle.marks.specs.Outcomes.{Housed, IsString, AreMarkBytes, IsLastByte, IsLastBit, TellsBlock, TellsStanding, IsRegisterAfter, IsMarkOf};
 
 // The marks: FC, FE, FB, F8, and the house mark F9 of a rewrite under way.
 pub enum Mark {
@@ -95,6 +95,19 @@ pub fn last_bit(mark: Mark) -> u8
     ensures { λ r. ⌜ IsLastBit mark r ⌝ }
 {
     fm_string(mark)[1] % 2
+}
+
+// Whether the mark is of a block: a data, control or open mark.
+pub fn is_block(mark: Mark) -> bool
+    ensures { λ r. ⌜ TellsBlock mark r ⌝ }
+{
+    match mark {
+        Mark::Index => false,
+        Mark::Identifier => false,
+        Mark::Data => true,
+        Mark::Control => true,
+        Mark::Open => true,
+    }
 }
 
 // Whether the cells from `place` on spell the bytes.

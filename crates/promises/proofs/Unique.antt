@@ -13,12 +13,12 @@ use Rattle.calls.specs.Outcomes.{IsTested, IsCheckedNumber, IsRefusalNumber, Is
 use Rattle.layouts.specs.Outcomes.{IsLayout, IsLayoutOf, IsTrack, IsGapByte, IsLayoutNumber, IsTrackNumbers, IsTrackAndImage}
 use Rattle.layouts.specs.declared.Layout.{Layout}
 use Rattle.calls.specs.declared.Refusal.{Refusal}
-use Rattle.marks.specs.Outcomes.{IsString, AreMarkBytes, IsLastByte, IsLastBit, TellsStanding, IsRegisterAfter, IsMarkOf}
+use Rattle.marks.specs.Outcomes.{TellsBlock, IsString, AreMarkBytes, IsLastByte, IsLastBit, TellsStanding, IsRegisterAfter, IsMarkOf}
 use Rattle.marks.specs.declared.Mark.{Mark}
 use Rattle.search.specs.declared.Kinds.{Kinds}
 use Rattle.answers.specs.Outcomes.{AreUnread, IsFaultNumber, IsAnswerNumber, IsAnswerOf, TellsCarrying}
 use Rattle.read.specs.Outcomes.{Reads}
-use Rattle.search.specs.Outcomes.{TellsBlock, IsMarkAt, IsFirstMark}
+use Rattle.search.specs.Outcomes.{IsMarkAt, IsFirstMark}
 use Rattle.walk.specs.Outcomes.{IsRound}
 use Rattle.locate.specs.Outcomes.{Locates}
 use Rattle.layouts.specs.declared.Track.{Track}
@@ -91,10 +91,10 @@ register-after mode mark = by-value _
 pub mark-of : (byte : ℕ) → Unique (IsMarkOf byte)
 mark-of byte = by-value _
 
--- ---- search
-
 pub is-block : (mark : Mark) → Unique (TellsBlock mark)
 is-block mark = by-value _
+
+-- ---- search
 
 pub mark-at : (mode : Mode) (kinds : Kinds) (image : List ℕ) (place : ℕ) → Unique (IsMarkAt mode kinds image place)
 mark-at mode kinds image place = by-value _

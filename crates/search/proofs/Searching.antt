@@ -8,8 +8,8 @@ use native.Mathlib.Decide.{decLe}
 use mathlib.Core.Logic.{_⊎_, inl, inr, ⊎-elim}
 use lib.Dec.{T}
 use Rattle.cells.specs.declared.Mode.{Mode}
-use Rattle.marks.specs.Marks.{string, markCells, stands}
-use Rattle.search.specs.Search.{nowhere, at, find, among, choose, isFound, sought, standing, isStanding, named, firstMark}
+use Rattle.marks.specs.Marks.{string, markCells, ofBlock, stands}
+use Rattle.search.specs.Search.{nowhere, at, find, among, blockMarks, choose, isFound, sought, standing, isStanding, named, firstMark}
 use Rattle.marks.specs.declared.Mark.{Mark}
 use Rattle.marks.specs.declared.Mark.the-variants.{Index, Identifier, Data, Control, Open}
 use Rattle.search.specs.declared.Kinds.{Kinds}
@@ -137,3 +137,11 @@ module _ (mode : Mode) (c : ℕ → ℕ) (n : ℕ) (kinds : Kinds) where
 pub first-by : {mode : Mode} (m : Mode) (c : ℕ → ℕ) (n : ℕ) (kinds : Kinds) (from to : ℕ) {r : Found} → mode ≡ m → r ≡ firstMark m c n kinds from to
     → r ≡ firstMark mode c n kinds from to
 first-by m c n kinds from to e f = rw e f
+
+-- The kinds of a block are its marks.
+pub block-among : (k : Mark) → ofBlock k ≡ among blockMarks k
+block-among Index = refl
+block-among Identifier = refl
+block-among Data = refl
+block-among Control = refl
+block-among Open = refl

@@ -1,19 +1,13 @@
 -- What each public function of this crate promises. The house bound is that of marks.
-use mathlib.Core.Bool.{Bool}
 use mathlib.Core.List.{List}
 use mathlib.Core.Path.{_≡_}
 use Prim.Native.Nat.{ℕ, _*_}
 use lib.ListN.{length}
 use Rattle.cells.specs.Cells.{cell}
 use Rattle.cells.specs.declared.Mode.{Mode}
-use Rattle.marks.specs.declared.Mark.{Mark}
-use Rattle.search.specs.Search.{among, blockMarks, standing, firstMark}
+use Rattle.search.specs.Search.{standing, firstMark}
 use Rattle.search.specs.declared.Kinds.{Kinds}
 use Rattle.search.specs.declared.Found.{Found}
-
--- `is_block` answers whether the mark is of a block.
-abbrev pub TellsBlock : Mark → Bool → Type 0
-TellsBlock mark answer = answer ≡ among blockMarks mark
 
 -- `mark_at` answers which mark of the kinds a byte of the image begins, with its place, or that none does.
 abbrev pub IsMarkAt : Mode → Kinds → List ℕ → (byte : ℕ) → Found → Type 0

@@ -2,7 +2,7 @@
 use cells::Mode;
 use marks::Mark;
 ghost use Rattle.marks.specs.Outcomes.{Housed};
-ghost use Rattle.search.specs.Outcomes.{TellsBlock, IsMarkAt, IsFirstMark};
+ghost use Rattle.search.specs.Outcomes.{IsMarkAt, IsFirstMark};
 
 mod places;
 mod tables;
@@ -33,13 +33,6 @@ pub const BLOCK_MARKS: Kinds = Kinds {
 pub enum Found {
     At(usize, Mark),
     Nothing,
-}
-
-// Whether the mark is of a block.
-pub fn is_block(mark: Mark) -> bool
-    ensures { λ r. ⌜ TellsBlock mark r ⌝ }
-{
-    places::is_among(BLOCK_MARKS, mark)
 }
 
 // The mark of the kinds that the byte `at` begins, if one does. This lays out no table, as a search does.

@@ -12,10 +12,11 @@ use Rattle.edc.specs.Register.{edcOf}
 use Rattle.cells.specs.declared.Mode.{Mode}
 use Rattle.layouts.specs.declared.Layout.{Layout}
 use Rattle.layouts.specs.declared.Track.{Track}
+use Rattle.search.proofs.Searching.{block-among}
 use Rattle.search.proofs.Firsts.{first-known}
 use Rattle.marks.proofs.Spelling.{stands-room, string-width}
-use Rattle.marks.specs.Marks.{covered, markCells}
-use Rattle.search.specs.Search.{among, eitherMarks, blockMarks, firstMark}
+use Rattle.marks.specs.Marks.{covered, markCells, ofBlock}
+use Rattle.search.specs.Search.{eitherMarks, firstMark}
 use Rattle.search.specs.declared.Kinds.{Kinds}
 use Rattle.marks.specs.declared.Mark.{Mark}
 use Rattle.marks.specs.declared.Mark.the-variants.{Identifier}
@@ -47,22 +48,22 @@ module _ (l : Layout) (n s a : ℕ) (f : Found) where
   unfolding reached
   reached-none e = rw e
 
-  pub reached-other : (m : ℕ) (k : Mark) (b : Bool) → f ≡ At m k → b ≡ among blockMarks k → b ≡ false → Meets (Accepted s Missing) a ≡ reached l n s a f
+  pub reached-other : (m : ℕ) (k : Mark) (b : Bool) → f ≡ At m k → b ≡ ofBlock k → b ≡ false → Meets (Accepted s Missing) a ≡ reached l n s a f
   unfolding reached first
-  reached-other m k b e g h = rw (e, ← g, h)
+  reached-other m k b e g h = rw (e, ← (g ∙ block-among k), h)
 
   -- w is the cells of the mark, and `room` the data bytes that the image has behind it.
-  module _ (m w room : ℕ) (k : Mark) (b : Bool) (at : f ≡ At m k) (told : b ≡ among blockMarks k) (of : b ≡ true) (wide : w ≡ markCells (l .mode))
+  module _ (m w room : ℕ) (k : Mark) (b : Bool) (at : f ≡ At m k) (told : b ≡ ofBlock k) (of : b ≡ true) (wide : w ≡ markCells (l .mode))
       (there : m + w ≤ n) (left : room ≡ (n - (m + w)) / 16) where
     pub reached-within : 2 ≤ room → l .size ≤ room - 2 → Meets (Accepted s (Within m)) (m + w + 16 * (l .size + 2)) ≡ reached l n s a f
     unfolding reached first claimed
     reached-within two long =
         let e : m + w + 16 * (l .size + 2) ≡ m + blockCells l = omega (arith, wide) in
-        rw (at, ← told, of, e, le-leb (m + blockCells l) n (omega (arith, wide)))
+        rw (at, ← (told ∙ block-among k), of, e, le-leb (m + blockCells l) n (omega (arith, wide)))
 
     pub reached-beyond : (2 ≤ room → room - 2 < l .size) → Meets (Accepted s (Beyond m)) n ≡ reached l n s a f
     unfolding reached first claimed
-    reached-beyond short = rw (at, ← told, of, lt-leb (m + blockCells l) n (elim (decLe 2 room) [ yes h ↦ more h | no h ↦ fewer h ]))
+    reached-beyond short = rw (at, ← (told ∙ block-among k), of, lt-leb (m + blockCells l) n (elim (decLe 2 room) [ yes h ↦ more h | no h ↦ fewer h ]))
       where
         more : 2 ≤ room → n < m + blockCells l
         more two = let h = short two in omega (arith, wide)

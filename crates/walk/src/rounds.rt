@@ -84,7 +84,7 @@ pub(crate) fn block_of(layout: Layout, image: &[u8], sector: usize, after: usize
     let Found::At(place, mark) = mark_from(mode, EITHER_MARKS, image, after, to) else {
         return Round::Meets(Event::Accepted(sector, Block::Missing), after);
     };
-    if !search::is_block(mark) {
+    if !marks::is_block(mark) {
         return Round::Meets(Event::Accepted(sector, Block::Missing), after);
     }
     let field = place + 16 * marks::mark_bytes(mode);
