@@ -16,16 +16,16 @@ unfolding cell
 cell-lt s i = omega arith
 
 -- The n cells from cell i on, as a number, the first of them the highest.
-abbrev cellsFrom : List ℕ → ℕ → ℕ → ℕ
-cellsFrom s zero i = 0
-cellsFrom s (suc n) i = cell s i * 2 ^ n + cellsFrom s n (i + 1)
+abbrev cellsFrom : (ℕ → ℕ) → ℕ → ℕ → ℕ
+cellsFrom c zero i = 0
+cellsFrom c (suc n) i = c i * 2 ^ n + cellsFrom c n (i + 1)
 
 -- one digit more at the top
 top : (a t n : ℕ) → a / 2 ^ (t + n) % 2 * 2 ^ n + a / 2 ^ t % 2 ^ n ≡ a / 2 ^ t % 2 ^ suc n
 top a t n = sym (rw (← one-add n) (mod-pow-add (a / 2 ^ t) 1 n ∙ rw (shr-shr a t n)))
 
 -- cells of one byte
-in-byte : (s : List ℕ) (n i : ℕ) → i % 8 + n ≤ 8 → cellsFrom s n i ≡ getD s (i / 8) 0 / 2 ^ (8 - (i % 8 + n)) % 2 ^ n
+in-byte : (s : List ℕ) (n i : ℕ) → i % 8 + n ≤ 8 → cellsFrom (cell s) n i ≡ getD s (i / 8) 0 / 2 ^ (8 - (i % 8 + n)) % 2 ^ n
 unfolding cell
 in-byte s zero i h = sym (mod-one _)
 in-byte s (suc zero) i h =
@@ -40,11 +40,11 @@ in-byte s (suc (suc n)) i h =
     ∙ top (getD s (i / 8) 0) (8 - (i % 8 + suc (suc n))) (suc n)
 
 -- cells of two stretches
-cells-add : (s : List ℕ) (n m i : ℕ) → cellsFrom s (n + m) i ≡ cellsFrom s n i * 2 ^ m + cellsFrom s m (i + n)
-cells-add s zero m i = rw (zero-add m, zero-mul, zero-add, add-zero)
-cells-add s (suc n) m i =
+cells-add : (c : ℕ → ℕ) (n m i : ℕ) → cellsFrom c (n + m) i ≡ cellsFrom c n i * 2 ^ m + cellsFrom c m (i + n)
+cells-add c zero m i = rw (zero-add m, zero-mul, zero-add, add-zero)
+cells-add c (suc n) m i =
     let e : i + suc n ≡ i + 1 + n = omega arith in
-    rw (suc-add n m, e, cells-add s n m (i + 1), pow-add 2 n m, ← mul-assoc, ← add-assoc, ← add-mul)
+    rw (suc-add n m, e, cells-add c n m (i + 1), pow-add 2 n m, ← mul-assoc, ← add-assoc, ← add-mul)
 
 -- The eight cells that begin k cells into two bytes: the upper ones are of the first byte, the lower ones of the second.
 pub window : (a b k : ℕ) → a < 256 → b < 256 → k < 8 → (a * 256 + b) / 2 ^ (8 - k) % 256 ≡ a % 2 ^ (8 - k) * 2 ^ k + b / 2 ^ (8 - k) % 2 ^ k
@@ -58,9 +58,9 @@ window a b (suc (suc (suc (suc (suc (suc zero)))))) ha hb h = omega arith
 window a b (suc (suc (suc (suc (suc (suc (suc zero))))))) ha hb h = omega arith
 window a b (suc (suc (suc (suc (suc (suc (suc (suc k)))))))) ha hb h = absurd (omega arith)
 
-eight : (s : List ℕ) (i : ℕ) → cellsFrom s 8 i ≡ octet (cell s) i
+eight : (c : ℕ → ℕ) (i : ℕ) → cellsFrom c 8 i ≡ octet c i
 unfolding octet
-eight s i = simp (add-assoc i) (omega arith)
+eight c i = simp (add-assoc i) (omega arith)
 
 -- The two bytes at a cell, joined, and the window that begins in the first of them, are the octet.
 pub joined : (s : List ℕ) (i : ℕ) → getD s (i / 8) 0 < 256 → getD s (i / 8 + 1) 0 < 256
@@ -72,11 +72,11 @@ joined s i ha hb =
     let q : (i + (8 - i % 8)) / 8 ≡ i / 8 + 1 = omega arith in
     let r : 8 - ((i + (8 - i % 8)) % 8 + i % 8) ≡ 8 - i % 8 = omega arith in
     window (getD s (i / 8) 0) (getD s (i / 8 + 1) 0) (i % 8) ha hb k
-    ∙ sym (ap (λ (n : ℕ). cellsFrom s n i) (sym e) ∙ cells-add s (8 - i % 8) (i % 8) i
+    ∙ sym (ap (λ (n : ℕ). cellsFrom (cell s) n i) (sym e) ∙ cells-add (cell s) (8 - i % 8) (i % 8) i
     ∙ ap₂ (λ (x y : ℕ). x * 2 ^ (i % 8) + y)
     (in-byte s (8 - i % 8) i (omega arith) ∙ rw (p, div-one))
     (in-byte s (i % 8) (i + (8 - i % 8)) (omega arith) ∙ rw (q, r)))
-    ∙ eight s i
+    ∙ eight (cell s) i
 
 -- The four data cells of an octet, as the code takes them out.
 abbrev pub nibbleOf : ℕ → ℕ
@@ -183,55 +183,40 @@ aligned s k ha hb =
     let z : 8 * k % 8 ≡ 0 = omega arith in
     sym (joined s (8 * k) (rw e ha) (rw e hb)) ∙ rw (e, z) (omega arith)
 
--- Sixteen cells are each 0 or 1.
-record Sixteen (c : ℕ → ℕ) (p : ℕ) : Type 0 where
-  c0 : c p < 2
-  c1 : c (p + 1) < 2
-  c2 : c (p + 2) < 2
-  c3 : c (p + 3) < 2
-  c4 : c (p + 4) < 2
-  c5 : c (p + 5) < 2
-  c6 : c (p + 6) < 2
-  c7 : c (p + 7) < 2
-  c8 : c (p + 8) < 2
-  c9 : c (p + 9) < 2
-  c10 : c (p + 10) < 2
-  c11 : c (p + 11) < 2
-  c12 : c (p + 12) < 2
-  c13 : c (p + 13) < 2
-  c14 : c (p + 14) < 2
-  c15 : c (p + 15) < 2
+-- What lies in the middle of a number: b behind a, and d behind them.
+middle : (a b d s : ℕ) → s < 8 → b < 256 → d < 2 ^ s → (a * 2 ^ (8 + s) + (b * 2 ^ s + d)) / 2 ^ s % 256 ≡ b
+middle a b d zero h l m = omega arith
+middle a b d (suc zero) h l m = omega arith
+middle a b d (suc (suc zero)) h l m = omega arith
+middle a b d (suc (suc (suc zero))) h l m = omega arith
+middle a b d (suc (suc (suc (suc zero)))) h l m = omega arith
+middle a b d (suc (suc (suc (suc (suc zero))))) h l m = omega arith
+middle a b d (suc (suc (suc (suc (suc (suc zero)))))) h l m = omega arith
+middle a b d (suc (suc (suc (suc (suc (suc (suc zero))))))) h l m = omega arith
+middle a b d (suc (suc (suc (suc (suc (suc (suc (suc s)))))))) h l m = absurd (omega arith)
 
--- The octet that begins 8 - s cells after p lies in the two octets from p on.
-pub between : (c : ℕ → ℕ) → ((i : ℕ) → c i < 2) → (p s : ℕ) → s < 8
-    → octet c (p + (8 - s)) ≡ (octet c p * 256 + octet c (p + 8)) / 2 ^ s % 256
-unfolding octet
-between c bit p s h = go s h (record {
-  c0 = bit p;
-  c1 = bit (p + 1);
-  c2 = bit (p + 2);
-  c3 = bit (p + 3);
-  c4 = bit (p + 4);
-  c5 = bit (p + 5);
-  c6 = bit (p + 6);
-  c7 = bit (p + 7);
-  c8 = bit (p + 8);
-  c9 = bit (p + 9);
-  c10 = bit (p + 10);
-  c11 = bit (p + 11);
-  c12 = bit (p + 12);
-  c13 = bit (p + 13);
-  c14 = bit (p + 14);
-  c15 = bit (p + 15);
-})
-  where
-    go : (s : ℕ) → s < 8 → Sixteen c p → octet c (p + (8 - s)) ≡ (octet c p * 256 + octet c (p + 8)) / 2 ^ s % 256
-    go zero h b = simp (add-assoc p) (omega arith)
-    go (suc zero) h b = simp (add-assoc p) (omega arith)
-    go (suc (suc zero)) h b = simp (add-assoc p) (omega arith)
-    go (suc (suc (suc zero))) h b = simp (add-assoc p) (omega arith)
-    go (suc (suc (suc (suc zero)))) h b = simp (add-assoc p) (omega arith)
-    go (suc (suc (suc (suc (suc zero))))) h b = simp (add-assoc p) (omega arith)
-    go (suc (suc (suc (suc (suc (suc zero)))))) h b = simp (add-assoc p) (omega arith)
-    go (suc (suc (suc (suc (suc (suc (suc zero))))))) h b = simp (add-assoc p) (omega arith)
-    go (suc (suc (suc (suc (suc (suc (suc (suc s)))))))) h b = absurd (omega arith)
+-- Cells that are each 0 or 1.
+module _ (c : ℕ → ℕ) (bit : (i : ℕ) → c i < 2) where
+  cells-lt : (n i : ℕ) → cellsFrom c n i < 2 ^ n
+  cells-lt zero i = omega arith
+  cells-lt (suc n) i = go (c i) (bit i) (cells-lt n (i + 1))
+    where
+      twice : 2 ^ suc n ≡ 2 * 2 ^ n
+      twice = rw (← one-add n) (pow-add 2 1 n)
+
+      go : (b : ℕ) → b < 2 → cellsFrom c n (i + 1) < 2 ^ n → b * 2 ^ n + cellsFrom c n (i + 1) < 2 ^ suc n
+      go zero h l = omega (arith, twice)
+      go (suc zero) h l = omega (arith, twice)
+      go (suc (suc b)) h l = absurd (omega arith)
+
+  -- The octet that begins 8 - s cells after p lies in the two octets from p on.
+  pub between : (p s : ℕ) → s < 8 → octet c (p + (8 - s)) ≡ (octet c p * 256 + octet c (p + 8)) / 2 ^ s % 256
+  between p s h =
+      let q = p + (8 - s) in
+      let e : 8 + 8 ≡ 8 - s + (8 + s) = omega arith in
+      let parts : cellsFrom c 8 p * 256 + cellsFrom c 8 (p + 8)
+      ≡ cellsFrom c (8 - s) p * 2 ^ (8 + s) + (cellsFrom c 8 q * 2 ^ s + cellsFrom c s (q + 8)) =
+      sym (cells-add c 8 8 p) ∙ ap (λ (n : ℕ). cellsFrom c n p) e ∙ cells-add c (8 - s) (8 + s) p
+      ∙ ap (λ (x : ℕ). cellsFrom c (8 - s) p * 2 ^ (8 + s) + x) (cells-add c 8 s q) in
+      rw (← eight c p, ← eight c (p + 8), ← eight c q, parts)
+      (sym (middle (cellsFrom c (8 - s) p) (cellsFrom c 8 q) (cellsFrom c s (q + 8)) s h (cells-lt 8 q) (cells-lt s (q + 8))))
