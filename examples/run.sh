@@ -29,7 +29,10 @@ counts() { # EXAMPLE WHAT STATUS WANTED TEST..
 }
 
 printf '\003\005\001' >"$out/empty.in" # a track without an image: refused
-for given in "$root"/samples/*.in "$out/empty.in"; do
+# a capture that begins a turn before the track and ends in a block: that is less than a turn round all the same
+first=$root/samples/first-track.in
+{ head -c 3 "$first" && head -c 10416 /dev/zero && tail -c +4 "$first" | head -c 4800; } >"$out/second-turn.in"
+for given in "$root"/samples/*.in "$out/empty.in" "$out/second-turn.in"; do
     name=$(basename "$given" .in)
     wanted=0 && [ "$name" != empty ] || wanted=1
     for example in in-c in-rust; do

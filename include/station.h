@@ -38,7 +38,7 @@
  *   12  a step after the last
  *   13  a step, and no data, control or open mark stands at the plan's place on a byte boundary, or its block passes the image's end
  *
- * A sector's answer, from station_read in `answers` and from station_pick:
+ * A sector's record, from station_read in `records` and from station_pick in `record`, is its answer and its place. The answer:
  *
  *   1   a data record: the slot holds its bytes
  *   2   a control record: the slot holds its bytes
@@ -50,6 +50,9 @@
  *   26  its EDC is wrong
  *
  * With 21 to 26 the slot is all zero. No number of an answer that station_pick gives is that of a refusal that it gives.
+ *
+ * The place is the cell at which the sector's data, control or open mark begins, the image's first cell being 0. It is there with 1, 2, 24, 25
+ * and 26. With 21 and 23 no such mark was found, and with 22 there may be several: the place is then 4,294,967,295, which no cell has.
  */
 #ifndef STATION_H
 #define STATION_H
@@ -118,6 +121,15 @@ enum station_mark {
     STATION_MARK_CONTROL = 0xF8
 };
 
+/* The place in a record with the answer 21, 22 or 23. */
+#define STATION_NO_PLACE 4294967295u
+
+/* A sector's record, as it stands above. */
+struct station_record {
+    uint32_t answer;
+    uint32_t place;
+};
+
 /* The EDC of the bytes: X^16 + X^12 + X^5 + 1, the register all ones at the start. Never refused. */
 uint16_t station_edc(const uint8_t *bytes, size_t bytes_length);
 
@@ -138,25 +150,28 @@ uint8_t station_format(uint32_t layout, uint32_t cylinder, uint32_t side, const 
                        const uint8_t *marks, size_t marks_length, uint8_t *image, size_t image_length);
 
 /*
- * Reads a track. Whatever they held before, `area` gets the sectors' slots; `answers` the answers by sector, that of sector 1 first, and 0
+ * Reads a track. Whatever they held before, `area` gets the sectors' slots; `records` the records by sector, that of sector 1 first, and zeros
  * past the layout's count; `counts` the number of identifiers with a wrong EDC, and of those of other tracks.
- * 0: read; look at `answers` before any slot is used. Refused 2, 3, 4, 1, 5: all three hold zeros, `area` over the whole length lent.
+ * 0: read; look at a sector's answer before its slot is used. Refused 2, 3, 4, 1, 5: all three hold zeros, `area` over the whole length lent.
  */
 uint8_t station_read(uint32_t layout, uint32_t cylinder, uint32_t side, const uint8_t *image, size_t image_length, uint8_t *area,
-                     size_t area_length, uint8_t answers[26], uint32_t counts[2]);
+                     size_t area_length, struct station_record records[26], uint32_t counts[2]);
 
 /*
- * Picks a sector from two passes over one track, each an area and the answers that station_read gave with it (a number that is no answer's
- * counts as 21): from whichever pass answered 1 or 2, the first before the second, and never from both.
- * Gives the sector's answer: with 1 or 2 `taken` gets the pass, 1 or 2, the first byte of the slot in that pass's area, and the slot's
- * length; else it is the first pass's answer, and `taken` gets zeros. Refused 4 (only above 3), 9, 5: zeros.
+ * Picks a sector from two passes over one track, each an area and the records that station_read gave with it (an answer whose number is no
+ * answer's counts as 21, whatever the place beside it): from whichever pass answered 1 or 2, the first before the second, and never from both.
+ * Gives the sector's answer. With 1 or 2 `taken` gets the pass, 1 or 2, the first byte of the slot in that pass's area, and the slot's length,
+ * and `record` the sector's record in that pass. Else it is the first pass's answer: `taken` gets zeros, and `record` the record in the first
+ * pass. A place is handed on as it is. Refused 4 (only above 3), 9, 5: zeros in both.
  */
-uint8_t station_pick(uint32_t layout, uint32_t sector, const uint8_t *first, size_t first_length, const uint8_t first_answers[26],
-                     const uint8_t *second, size_t second_length, const uint8_t second_answers[26], uint32_t taken[3]);
+uint8_t station_pick(uint32_t layout, uint32_t sector, const uint8_t *first, size_t first_length,
+                     const struct station_record first_records[26], const uint8_t *second, size_t second_length,
+                     const struct station_record second_records[26], uint32_t taken[3], struct station_record *record);
 
 /*
  * Asks for the rewrite of a sector with a mark and N bytes. The image is only read.
- * 0: `plan` gets the layout, the cell at which the block's mark begins, the stores made, which are 0, and the stores in all.
+ * 0: `plan` gets the layout, the cell at which the block's mark begins (the place in the sector's record), the stores made, which are 0, and the
+ * stores in all.
  * Refused 2, 3, 4, 1, 9, 5, 6, 7, 10, 11: zeros.
  */
 uint8_t station_request(uint32_t layout, uint32_t cylinder, uint32_t side, uint32_t sector, uint32_t mark, const uint8_t *contents,
@@ -167,8 +182,8 @@ uint8_t station_request(uint32_t layout, uint32_t cylinder, uint32_t side, uint3
  * plan[2], are the stores in all, plan[3]. It looks for the mark at the plan's place each time; plan[3] it only writes.
  * 0: the store is made, and the plan moved on. Refused 4 (only above 3), 1, 5, 6, 13, 12: plan and image are as they were.
  *
- * It may be cut after any store: every other sector reads as before; the one under way answers 25 from the first store to the last but one,
- * and asking anew ends with the image that an uncut rewrite leaves.
+ * It may be cut after any store: every other sector reads as before; the one under way answers 25 from the first store to the last but one, its
+ * place unchanged, and asking anew ends with the image that an uncut rewrite leaves.
  */
 uint8_t station_step(uint32_t plan[4], uint32_t mark, const uint8_t *contents, size_t contents_length, uint8_t *image,
                      size_t image_length);

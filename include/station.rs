@@ -30,7 +30,7 @@ extern "C" {
         image_length: usize,
         area: *mut u8,
         area_length: usize,
-        answers: *mut [u8; 26],
+        records: *mut [Record; 26],
         counts: *mut [u32; 2],
     ) -> u8;
     pub fn station_pick(
@@ -38,11 +38,12 @@ extern "C" {
         sector: u32,
         first: *const u8,
         first_length: usize,
-        first_answers: *const [u8; 26],
+        first_records: *const [Record; 26],
         second: *const u8,
         second_length: usize,
-        second_answers: *const [u8; 26],
+        second_records: *const [Record; 26],
         taken: *mut [u32; 3],
+        record: *mut Record,
     ) -> u8;
     pub fn station_request(
         layout: u32,
@@ -97,20 +98,32 @@ pub const LONGEST_IMAGE: usize = 24_576;
 pub const DATA_MARK: u8 = 0xFB;
 pub const CONTROL_MARK: u8 = 0xF8;
 
+/// The place in a record with the answer 21, 22 or 23.
+pub const NO_PLACE: u32 = u32::MAX;
+
+/// A sector's record, station.h's `struct station_record`: its answer, and the cell at which its data, control or open
+/// mark begins.
+#[repr(C)]
+#[derive(Clone, Copy, Debug, Default, PartialEq, Eq)]
+pub struct Record {
+    pub answer: u32,
+    pub place: u32,
+}
+
 /// What a read tells of a track, beside the sectors' slots.
 #[derive(Clone, Copy, Debug, Default, PartialEq, Eq)]
 pub struct Reading {
-    /// The answer of each sector, that of sector 1 first; 0 past the layout's count.
-    pub answers: [u8; MOST_SECTORS],
+    /// The record of each sector, that of sector 1 first; zeros past the layout's count.
+    pub records: [Record; MOST_SECTORS],
     /// How many identifiers have a wrong EDC, and how many are those of other tracks.
     pub counts: [u32; 2],
 }
 
-/// A pass over a track, as a read left it: the slots of all sectors, and their answers.
+/// A pass over a track, as a read left it: the slots of all sectors, and their records.
 #[derive(Clone, Copy)]
 pub struct Pass<'a> {
     pub area: &'a [u8],
-    pub answers: &'a [u8; MOST_SECTORS],
+    pub records: &'a [Record; MOST_SECTORS],
 }
 
 /// The EDC of the bytes, the register all ones at the start.
@@ -156,7 +169,7 @@ pub fn format(layout: u32, cylinder: u32, side: u32, data: &[u8], marks: &[u8], 
     }
 }
 
-/// Reads a track. 0: slots and answers stand by sector number, the answers past the layout's count are 0. Else the
+/// Reads a track. 0: slots and records stand by sector number, the records past the layout's count are zeros. Else the
 /// number of the refusal, and all that was lent is zero.
 pub fn read(layout: u32, cylinder: u32, side: u32, image: &[u8], area: &mut [u8], reading: &mut Reading) -> u8 {
     // SAFETY: each pointer and length are those of one live slice or array; `image` is only read, and the others, which
@@ -170,28 +183,31 @@ pub fn read(layout: u32, cylinder: u32, side: u32, image: &[u8], area: &mut [u8]
             image.len(),
             area.as_mut_ptr(),
             area.len(),
-            &mut reading.answers,
+            &mut reading.records,
             &mut reading.counts,
         )
     }
 }
 
 /// Picks a sector from two passes. The answer's number or the refusal's; what is taken is the pass, 1 or 2, the first
-/// byte of its slot in that pass's area, and the slot's length; three zeros if it is neither.
-pub fn pick(layout: u32, sector: u32, first: Pass, second: Pass, taken: &mut [u32; 3]) -> u8 {
-    // SAFETY: each pointer and length are those of one live slice or array; all but `taken` are only read, and `taken`,
-    // which is written, overlaps none of them; every number is taken.
+/// byte of its slot in that pass's area, and the slot's length; three zeros if it is neither. The record is that of the
+/// pass taken, or of the first if it is neither; zeros if the call is refused.
+pub fn pick(layout: u32, sector: u32, first: Pass, second: Pass, taken: &mut [u32; 3], record: &mut Record) -> u8 {
+    // SAFETY: each pointer and length are those of one live slice, array or record; all but `taken` and `record` are
+    // only read, and these, which are written, overlap none of them nor each other; every number is taken, in the
+    // records too.
     unsafe {
         station_pick(
             layout,
             sector,
             first.area.as_ptr(),
             first.area.len(),
-            first.answers,
+            first.records,
             second.area.as_ptr(),
             second.area.len(),
-            second.answers,
+            second.records,
             taken,
+            record,
         )
     }
 }

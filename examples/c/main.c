@@ -15,11 +15,12 @@
 
 static const struct {
     size_t sectors, bytes;
+    uint32_t image;
 } LAYOUTS[STATION_LAYOUTS] = {
-    {STATION_SECTORS_0, STATION_BYTES_0},
-    {STATION_SECTORS_1, STATION_BYTES_1},
-    {STATION_SECTORS_2, STATION_BYTES_2},
-    {STATION_SECTORS_3, STATION_BYTES_3},
+    {STATION_SECTORS_0, STATION_BYTES_0, STATION_IMAGE_0},
+    {STATION_SECTORS_1, STATION_BYTES_1, STATION_IMAGE_1},
+    {STATION_SECTORS_2, STATION_BYTES_2, STATION_IMAGE_2},
+    {STATION_SECTORS_3, STATION_BYTES_3, STATION_IMAGE_3},
 };
 
 enum { BYTES = STATION_BYTES_1, AREA = STATION_SECTORS_1 * STATION_BYTES_1 };
@@ -28,7 +29,7 @@ enum { BYTES = STATION_BYTES_1, AREA = STATION_SECTORS_1 * STATION_BYTES_1 };
 static uint8_t file[3 + STATION_LONGEST_IMAGE + 1], area[STATION_LONGEST_AREA], image[STATION_IMAGE_1];
 
 /* Only 1 and 2 come with bytes; in every other case the slot is zeros, which must not be taken for data. */
-static int usable(uint8_t answer) {
+static int usable(uint32_t answer) {
     return answer == STATION_ANSWER_DATA || answer == STATION_ANSWER_CONTROL;
 }
 
@@ -57,33 +58,45 @@ static int refused(const char *what, uint8_t number) {
     return number != STATION_DONE;
 }
 
+/* A sector that can't be used, with how far round its mark is, so that the disk can be turned to it. A capture may be longer than a turn. */
+static void show_refused(size_t sector, struct station_record record, uint32_t cells_of_a_turn) {
+    printf("sector %u can't be used: answer %u", (unsigned)sector, (unsigned)record.answer);
+    if (record.place != STATION_NO_PLACE) {
+        /* a captured image has at most 196,608 cells: this stays within 32 bits */
+        uint32_t tenths = record.place * 3600 / cells_of_a_turn % 3600;
+        printf(", %u.%u degrees round from the index hole", (unsigned)tenths / 10, (unsigned)tenths % 10);
+    }
+    printf("\n");
+}
+
 static int show_captured(size_t length) {
     uint32_t layout = file[0], cylinder = file[1], side = file[2], counts[2];
-    uint8_t answers[STATION_MOST_SECTORS];
+    struct station_record records[STATION_MOST_SECTORS];
     /* the file may say anything: a layout that there is not is left to the library, which refuses it */
     int known = layout < STATION_LAYOUTS;
     size_t sector, sectors = known ? LAYOUTS[layout].sectors : 0, bytes = known ? LAYOUTS[layout].bytes : 0;
-    if (refused("the captured track", station_read(layout, cylinder, side, file + 3, length - 3, area, sectors * bytes, answers, counts)))
+    if (refused("the captured track", station_read(layout, cylinder, side, file + 3, length - 3, area, sectors * bytes, records, counts)))
         return 0;
     printf("captured: layout %u, cylinder %u, side %u\n", (unsigned)layout, (unsigned)cylinder, (unsigned)side);
     for (sector = 1; sector <= sectors; sector++) {
         const uint8_t *slot = area + (sector - 1) * bytes;
-        if (usable(answers[sector - 1]))
-            printf("sector %u can be used: answer %u, first byte %02X\n", (unsigned)sector, answers[sector - 1], slot[0]);
+        struct station_record record = records[sector - 1];
+        if (usable(record.answer))
+            printf("sector %u can be used: answer %u, first byte %02X\n", (unsigned)sector, (unsigned)record.answer, slot[0]);
         else
-            printf("sector %u can't be used: answer %u\n", (unsigned)sector, answers[sector - 1]);
+            show_refused(sector, record, 8 * LAYOUTS[layout].image);
     }
     printf("identifiers: %u with a wrong EDC, %u of other tracks\n", (unsigned)counts[0], (unsigned)counts[1]);
     return 1;
 }
 
 /* What one sector of the track in memory answers: layout 1, cylinder 5, side 0. */
-static uint8_t answer_of(size_t sector) {
-    uint8_t answers[STATION_MOST_SECTORS];
+static unsigned answer_of(size_t sector) {
+    struct station_record records[STATION_MOST_SECTORS];
     uint32_t counts[2];
-    if (station_read(1, 5, 0, image, sizeof image, area, AREA, answers, counts) != STATION_DONE)
+    if (station_read(1, 5, 0, image, sizeof image, area, AREA, records, counts) != STATION_DONE)
         return 0;
-    return answers[sector - 1];
+    return records[sector - 1].answer;
 }
 
 static int rewrite_in_memory(void) {

@@ -13,7 +13,7 @@ use std::process::ExitCode;
 #[path = "../../include/station.rs"]
 mod station;
 
-use station::{Layout, Reading, DATA_MARK, LAYOUTS, LONGEST_IMAGE};
+use station::{Layout, Reading, Record, DATA_MARK, LAYOUTS, LONGEST_IMAGE, NO_PLACE};
 
 /// Why the program ends early.
 enum Failure {
@@ -72,19 +72,31 @@ impl Track {
 }
 
 /// Only 1 and 2 come with bytes; in every other case the slot is zeros, which must not be taken for data.
-fn usable(answer: u8) -> bool {
+fn usable(answer: u32) -> bool {
     matches!(answer, 1 | 2)
+}
+
+/// A sector that can't be used, with how far round its mark is, so that the disk can be turned to it. A capture may be
+/// longer than a turn.
+fn show_refused(out: &mut impl Write, sector: usize, record: Record, cells_of_a_turn: u32) -> io::Result<()> {
+    write!(out, "sector {sector} can't be used: answer {}", record.answer)?;
+    if record.place != NO_PLACE {
+        // a captured image has at most 196,608 cells: this stays within 32 bits
+        let tenths = record.place * 3600 / cells_of_a_turn % 3600;
+        write!(out, ", {}.{} degrees round from the index hole", tenths / 10, tenths % 10)?;
+    }
+    writeln!(out)
 }
 
 fn show_captured(out: &mut impl Write, track: Track, image: &[u8]) -> Result<(), Failure> {
     let (area, reading) = track.read("the captured track", image)?;
     writeln!(out, "captured: layout {}, cylinder {}, side {}", track.layout, track.cylinder, track.side)?;
-    let slots = area.chunks(track.sizes().bytes);
-    for (sector, (slot, answer)) in (1..).zip(slots.zip(reading.answers)) {
-        if usable(answer) {
-            writeln!(out, "sector {sector} can be used: answer {answer}, first byte {:02X}", slot[0])?;
+    let sizes = track.sizes();
+    for (sector, (slot, record)) in (1..).zip(area.chunks(sizes.bytes).zip(reading.records)) {
+        if usable(record.answer) {
+            writeln!(out, "sector {sector} can be used: answer {}, first byte {:02X}", record.answer, slot[0])?;
         } else {
-            writeln!(out, "sector {sector} can't be used: answer {answer}")?;
+            show_refused(out, sector, record, 8 * sizes.image as u32)?;
         }
     }
     let [bad, foreign] = reading.counts;
@@ -97,7 +109,7 @@ fn rewrite_in_memory(out: &mut impl Write) -> Result<(), Failure> {
     let Layout { sectors, bytes, image } = track.sizes();
     let (data, marks, mut image) = (vec![0xE5; sectors * bytes], vec![DATA_MARK; sectors], vec![0; image]);
     served("the format", track.format(&data, &marks, &mut image))?;
-    writeln!(out, "formatted: sector 2 answers {}", track.read("the read", &image)?.1.answers[1])?;
+    writeln!(out, "formatted: sector 2 answers {}", track.read("the read", &image)?.1.records[1].answer)?;
 
     let (contents, mut plan) = (vec![b'N'; bytes], [0; 4]);
     let Track { layout, cylinder, side } = track;
@@ -108,18 +120,18 @@ fn rewrite_in_memory(out: &mut impl Write) -> Result<(), Failure> {
         served("a step", station::step(&mut plan, mark, &contents, &mut image))?;
         // were it cut here, nobody could take the half-written sector for a good one
         if plan[2] == 200 {
-            let answers = track.read("the read", &image)?.1.answers;
+            let answers = track.read("the read", &image)?.1.records.map(|record| record.answer);
             writeln!(out, "after 200 stores: sector 2 answers {}, sector 3 answers {}", answers[1], answers[2])?;
         }
     }
     let (area, reading) = track.read("the read", &image)?;
     let new = if area[bytes..2 * bytes] == contents { "the new ones" } else { "not the new ones" };
-    writeln!(out, "after the last: sector 2 answers {}, and its bytes are {new}", reading.answers[1])?;
+    writeln!(out, "after the last: sector 2 answers {}, and its bytes are {new}", reading.records[1].answer)?;
     let number = station::step(&mut plan, mark, &contents, &mut image);
     writeln!(out, "one more step is refused: {number}")?;
     // a refused format leaves the image as it was, so the rewritten track is still there
     let number = Track { cylinder: 75, ..track }.format(&data, &marks, &mut image);
-    let answer = track.read("the read", &image)?.1.answers[1];
+    let answer = track.read("the read", &image)?.1.records[1].answer;
     writeln!(out, "cylinder 75 is refused: {number}, and sector 2 still answers {answer}")?;
     out.flush()?;
     Ok(())

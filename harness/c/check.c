@@ -40,6 +40,17 @@ void same_numbers(const char *file, int line, const char *what, const uint32_t *
         fprintf(stderr, "[%lu] is %lu, not %lu\n", (unsigned long)i, (unsigned long)got[i], (unsigned long)expected[i]);
 }
 
+void same_records(const char *file, int line, const char *what, const struct station_record *got, const struct station_record *expected,
+                  size_t count) {
+    size_t i = 0;
+    made++;
+    while (i < count && got[i].answer == expected[i].answer && got[i].place == expected[i].place)
+        i++;
+    if (i < count && differs(file, line, what))
+        fprintf(stderr, "[%lu] is %lu at %lu, not %lu at %lu\n", (unsigned long)i, (unsigned long)got[i].answer, (unsigned long)got[i].place,
+                (unsigned long)expected[i].answer, (unsigned long)expected[i].place);
+}
+
 void all(const char *file, int line, const char *what, const uint8_t *got, uint8_t value, size_t length) {
     size_t i = 0;
     made++;

@@ -18,21 +18,21 @@ static void rewrite(const struct track *track, uint32_t sector, uint8_t *target,
         SAME(station_step(plan, STATION_MARK_CONTROL, contents, track->size, target, track->image), STATION_DONE);
 }
 
-/* What was formatted, but for one sector and what it holds now. */
-static void reads_as(const struct track *track, const uint8_t *target, size_t sector, uint8_t answer, const uint8_t *slot) {
+/* What was formatted, but for one sector, its answer and what it holds now: no place changes. */
+static void reads_as(const struct track *track, const uint8_t *target, size_t sector, uint32_t answer, const uint8_t *slot) {
     static uint8_t area[LONGEST_AREA], expected[LONGEST_AREA];
-    uint8_t answers[26], expected_answers[26] = {0};
+    struct station_record records[26], expected_records[26] = {{0, 0}};
     uint32_t counts[2];
     static const uint32_t none[2] = {0, 0};
     size_t i, length = track->sectors * track->size;
     memcpy(expected, data, length);
     for (i = 1; i <= track->sectors; i++)
-        expected_answers[i - 1] = answer_of(marks, i);
-    expected_answers[sector - 1] = answer;
+        expected_records[i - 1] = record_of(track, marks, i);
+    expected_records[sector - 1].answer = answer;
     memcpy(expected + (sector - 1) * track->size, slot, track->size);
-    SAME(station_read(track->layout, track->cylinder, track->side, target, track->image, area, length, answers, counts), STATION_DONE);
+    SAME(station_read(track->layout, track->cylinder, track->side, target, track->image, area, length, records, counts), STATION_DONE);
     SAME_BYTES(area, expected, length);
-    SAME_BYTES(answers, expected_answers, 26);
+    SAME_RECORDS(records, expected_records, 26);
     SAME_NUMBERS(counts, none, 2);
 }
 

@@ -4,14 +4,12 @@
 #include "station_test.h"
 #include "tracks.h"
 
-#include <string.h>
-
 static uint8_t data[LONGEST_AREA], marks[MOST_SECTORS], image[LONGEST_TRACK], contents[128];
 
 static void with(uint8_t *nothing) {
     const struct track *track = &TRACKS[0];
     size_t area = track->sectors * track->size;
-    uint8_t answers[26];
+    struct station_record records[26], picked;
     uint32_t counts[2], taken[3], plan[4];
     fresh(track, data, marks, image);
     SAME(station_edc(nothing, 0), 0xFFFF);
@@ -19,11 +17,11 @@ static void with(uint8_t *nothing) {
     SAME(station_format(0, 0, 0, nothing, 0, marks, 26, image, track->image), STATION_REFUSED_AREA_LENGTH);
     SAME(station_format(0, 0, 0, data, area, nothing, 0, image, track->image), STATION_REFUSED_MARK_BYTES);
     SAME(station_format(0, 0, 0, data, area, marks, 26, nothing, 0), STATION_REFUSED_IMAGE_LENGTH);
-    SAME(station_read(0, 0, 0, nothing, 0, data, area, answers, counts), STATION_REFUSED_IMAGE_LENGTH);
-    SAME(station_read(0, 0, 0, image, track->image, nothing, 0, answers, counts), STATION_REFUSED_AREA_LENGTH);
-    memset(answers, 1, sizeof answers);
-    SAME(station_pick(0, 1, nothing, 0, answers, data, area, answers, taken), STATION_REFUSED_AREA_LENGTH);
-    SAME(station_pick(0, 1, data, area, answers, nothing, 0, answers, taken), STATION_REFUSED_AREA_LENGTH);
+    SAME(station_read(0, 0, 0, nothing, 0, data, area, records, counts), STATION_REFUSED_IMAGE_LENGTH);
+    SAME(station_read(0, 0, 0, image, track->image, nothing, 0, records, counts), STATION_REFUSED_AREA_LENGTH);
+    records[0] = record(STATION_ANSWER_DATA, 0);
+    SAME(station_pick(0, 1, nothing, 0, records, data, area, records, taken, &picked), STATION_REFUSED_AREA_LENGTH);
+    SAME(station_pick(0, 1, data, area, records, nothing, 0, records, taken, &picked), STATION_REFUSED_AREA_LENGTH);
     SAME(station_request(0, 0, 0, 1, 0xFB, nothing, 0, image, track->image, plan), STATION_REFUSED_AREA_LENGTH);
     SAME(station_request(0, 0, 0, 1, 0xFB, contents, 128, nothing, 0, plan), STATION_REFUSED_IMAGE_LENGTH);
     SAME(station_request(0, 0, 0, 1, 0xFB, contents, 128, image, track->image, plan), STATION_DONE);

@@ -5,62 +5,107 @@
 
 #include <string.h>
 
-static uint8_t first[LONGEST_AREA + 1], second[LONGEST_AREA + 1], first_answers[26], second_answers[26];
+/* The cells at which the passes' records say that the sector's mark begins: each its own, so that one is not taken for the other. */
+enum { ONE = 3232, TWO = 3233 };
 
-/* The pick of a sector: its number, and the pass, the first byte and the length that are taken. The areas stay as they are. */
-static void picks(uint32_t layout, uint32_t sector, size_t first_length, size_t second_length, uint8_t number, uint32_t pass, uint32_t start,
-                  uint32_t length) {
-    uint32_t taken[4] = {0xDEADBEEF, 0xDEADBEEF, 0xDEADBEEF, 0xDEADBEEF}, expected[4];
-    expected[0] = pass, expected[1] = start, expected[2] = length, expected[3] = 0xDEADBEEF;
-    SAME(station_pick(layout, sector, first, first_length, first_answers, second, second_length, second_answers, taken), number);
-    SAME_NUMBERS(taken, expected, 4);
+static uint8_t first[LONGEST_AREA + 1], second[LONGEST_AREA + 1];
+static struct station_record first_records[26], second_records[26];
+
+/* What is picked of a sector: the record that is handed on, and the pass, the first byte and the length that are taken. */
+struct picked {
+    uint8_t number;
+    struct station_record record;
+    uint32_t taken[3];
+};
+
+/* A pick into what held something else before. The areas stay as they are, and so do the records. */
+static void picks(uint32_t layout, uint32_t sector, size_t first_length, size_t second_length, const struct picked *expected) {
+    struct station_record kept[2][26], handed[2], other = record(0xDEADBEEF, 0xDEADBEEF);
+    uint32_t taken[4] = {0xDEADBEEF, 0xDEADBEEF, 0xDEADBEEF, 0xDEADBEEF};
+    handed[0] = handed[1] = other;
+    memcpy(kept[0], first_records, sizeof kept[0]), memcpy(kept[1], second_records, sizeof kept[1]);
+    SAME(station_pick(layout, sector, first, first_length, first_records, second, second_length, second_records, taken, handed),
+         expected->number);
+    SAME_NUMBERS(taken, expected->taken, 3);
+    SAME_RECORDS(handed, &expected->record, 1);
+    SAME(taken[3], 0xDEADBEEF);
+    SAME_RECORDS(handed + 1, &other, 1);
     ALL(first, 1, sizeof first);
     ALL(second, 2, sizeof second);
+    SAME_RECORDS(first_records, kept[0], 26);
+    SAME_RECORDS(second_records, kept[1], 26);
 }
 
-static void both(size_t sector, uint8_t one, uint8_t two) {
-    first_answers[sector - 1] = one;
-    second_answers[sector - 1] = two;
+/* The answers of both passes for a sector, at their places; what is handed on, and the pass that is taken, 0 for neither. */
+static void both(const struct track *track, size_t sector, uint32_t one, uint32_t two, uint32_t answer, uint32_t place, uint32_t pass) {
+    size_t area = track->sectors * track->size;
+    struct picked expected = {0, {0, 0}, {0, 0, 0}};
+    first_records[sector - 1] = record(one, ONE);
+    second_records[sector - 1] = record(two, TWO);
+    expected.number = (uint8_t)answer;
+    expected.record = record(answer, place);
+    if (pass != 0) {
+        expected.taken[0] = pass;
+        expected.taken[1] = (uint32_t)((sector - 1) * track->size);
+        expected.taken[2] = (uint32_t)track->size;
+    }
+    picks(track->layout, (uint32_t)sector, area, area, &expected);
+}
+
+/* One record for all sectors of both passes. */
+static void fill(struct station_record same) {
+    size_t i;
+    for (i = 0; i < 26; i++)
+        first_records[i] = second_records[i] = same;
 }
 
 static void passes(const struct track *track) {
-    size_t area = track->sectors * track->size, sector;
+    size_t sector;
     for (sector = 1; sector <= track->sectors; sector++) {
-        uint32_t start = (uint32_t)((sector - 1) * track->size), size = (uint32_t)track->size, s = (uint32_t)sector;
-        uint8_t bad;
-        memset(first_answers, 26, 26), memset(second_answers, 26, 26);
-        both(sector, 1, 2), picks(track->layout, s, area, area, 1, 1, start, size);
-        both(sector, 2, 1), picks(track->layout, s, area, area, 2, 1, start, size);
+        uint32_t bad;
+        fill(record(STATION_ANSWER_WRONG_EDC, 7));
+        both(track, sector, 1, 2, 1, ONE, 1);
+        both(track, sector, 2, 1, 2, ONE, 1);
         for (bad = 21; bad <= 26; bad++) {
-            both(sector, 2, bad), picks(track->layout, s, area, area, 2, 1, start, size);
-            both(sector, bad, 1), picks(track->layout, s, area, area, 1, 2, start, size);
-            both(sector, bad, 2), picks(track->layout, s, area, area, 2, 2, start, size);
-            both(sector, bad, 47 - bad), picks(track->layout, s, area, area, bad, 0, 0, 0);
+            both(track, sector, 2, bad, 2, ONE, 1);
+            both(track, sector, bad, 1, 1, TWO, 2);
+            both(track, sector, bad, 2, 2, TWO, 2);
+            both(track, sector, bad, 47 - bad, bad, ONE, 0);
         }
-        /* no answer's number counts as 21 */
-        both(sector, 0, 26), picks(track->layout, s, area, area, 21, 0, 0, 0);
-        both(sector, 255, 3), picks(track->layout, s, area, area, 21, 0, 0, 0);
-        both(sector, 3, 1), picks(track->layout, s, area, area, 1, 2, start, size);
+        /* no answer's number counts as 21, also one whose low byte is an answer's; the place is handed on as it is */
+        both(track, sector, 0, 26, 21, ONE, 0);
+        both(track, sector, 255, 3, 21, ONE, 0);
+        both(track, sector, 257, 258, 21, ONE, 0);
+        both(track, sector, UINT32_MAX, 0x80000001, 21, ONE, 0);
+        both(track, sector, 3, 1, 1, TWO, 2);
+        both(track, sector, 258, 2, 2, TWO, 2);
     }
+}
+
+/* A refused pick: zeros in all that it hands on. */
+static void refused(uint32_t layout, uint32_t sector, size_t first_length, size_t second_length, uint8_t number) {
+    struct picked expected = {0, {0, 0}, {0, 0, 0}};
+    expected.number = number;
+    picks(layout, sector, first_length, second_length, &expected);
 }
 
 static void refusals(const struct track *track) {
     size_t area = track->sectors * track->size;
     uint32_t layout = track->layout, last = (uint32_t)track->sectors;
-    memset(first_answers, 1, 26), memset(second_answers, 1, 26);
-    picks(4, 1, area, area, 4, 0, 0, 0);
-    picks(UINT32_MAX, 1, area, area, 4, 0, 0, 0);
-    picks(layout, 0, area, area, 9, 0, 0, 0);
-    picks(layout, last + 1, area, area, 9, 0, 0, 0);
-    picks(layout, UINT32_MAX, area, area, 9, 0, 0, 0);
-    picks(layout, last, area - 1, area, 5, 0, 0, 0);
-    picks(layout, last, area + 1, area, 5, 0, 0, 0);
-    picks(layout, last, area, area - 1, 5, 0, 0, 0);
-    picks(layout, last, area, area + 1, 5, 0, 0, 0);
-    picks(layout, last, 0, 0, 5, 0, 0, 0);
+    fill(record(STATION_ANSWER_DATA, ONE));
+    refused(4, 1, area, area, 4);
+    refused(UINT32_MAX, 1, area, area, 4);
+    refused(layout, 0, area, area, 9);
+    refused(layout, last + 1, area, area, 9);
+    refused(layout, UINT32_MAX, area, area, 9);
+    refused(layout, last, area - 1, area, 5);
+    refused(layout, last, area + 1, area, 5);
+    refused(layout, last, area, area - 1, 5);
+    refused(layout, last, area, area + 1, 5);
+    refused(layout, last, 0, 0, 5);
     /* which comes first where all apply */
-    picks(4, 0, 0, 0, 4, 0, 0, 0);
-    picks(layout, 0, 0, 0, 9, 0, 0, 0);
+    refused(4, 0, 0, 0, 4);
+    refused(layout, 0, 0, 0, 9);
 }
 
 void pick_test(void) {

@@ -10,21 +10,25 @@ static struct room room;
 
 /* What a read is to give; the areas are full of garbage before. */
 struct expected {
-    uint8_t number, answers[26];
+    uint8_t number;
+    struct station_record records[26];
     uint32_t counts[2];
     uint8_t area[LONGEST_AREA + 1];
 };
 
 static void reads(const struct track *track, size_t image_length, size_t area_length, const struct expected *expected) {
-    uint8_t *area = lend(&room, area_length, 0x77), answers[27];
+    uint8_t *area = lend(&room, area_length, 0x77);
     uint32_t counts[3] = {0xDEADBEEF, 0xDEADBEEF, 0xDEADBEEF};
-    memset(answers, 0x99, sizeof answers);
-    SAME(station_read(track->layout, track->cylinder, track->side, image, image_length, area, area_length, answers, counts),
+    struct station_record records[27], other = record(0x99999999, 0x88888888);
+    size_t i;
+    for (i = 0; i < 27; i++)
+        records[i] = other;
+    SAME(station_read(track->layout, track->cylinder, track->side, image, image_length, area, area_length, records, counts),
          expected->number);
     SAME_BYTES(area, expected->area, area_length);
-    SAME_BYTES(answers, expected->answers, 26);
+    SAME_RECORDS(records, expected->records, 26);
     SAME_NUMBERS(counts, expected->counts, 2);
-    SAME(answers[26], 0x99);
+    SAME_RECORDS(records + 26, &other, 1);
     SAME(counts[2], 0xDEADBEEF);
     ROOM_KEPT(&room);
 }
@@ -35,13 +39,14 @@ static struct expected whole(const struct track *track) {
     size_t sector;
     memset(&expected, 0, sizeof expected);
     for (sector = 1; sector <= track->sectors; sector++)
-        expected.answers[sector - 1] = answer_of(marks, sector);
+        expected.records[sector - 1] = record_of(track, marks, sector);
     memcpy(expected.area, data, track->sectors * track->size);
     return expected;
 }
 
-static void gives(struct expected *expected, const struct track *track, size_t sector, uint8_t answer) {
-    expected->answers[sector - 1] = answer;
+/* A refused sector: its answer, and its place. */
+static void gives(struct expected *expected, const struct track *track, size_t sector, uint32_t answer, uint32_t place) {
+    expected->records[sector - 1] = record(answer, place);
     memset(expected->area + (sector - 1) * track->size, 0, track->size);
 }
 
@@ -60,27 +65,48 @@ static void damaged(const struct track *track) {
     expected = whole(track);
     /* a data cell of 2; a clock cell of 1, which does not matter */
     turn(image, 8 * (mark_of(track, 2) + mark) + 3);
-    gives(&expected, track, 2, STATION_ANSWER_WRONG_EDC);
+    gives(&expected, track, 2, STATION_ANSWER_WRONG_EDC, place_of(track, 2));
     turn(image, 8 * (mark_of(track, 1) + mark) + 2);
     /* the mark of 3 */
     turn(image, 8 * mark_of(track, 3));
-    gives(&expected, track, 3, STATION_ANSWER_NO_BLOCK);
+    gives(&expected, track, 3, STATION_ANSWER_NO_BLOCK, STATION_NO_PLACE);
     /* the open mark at 4 */
     image[mark_of(track, 4) + mark - 1] = track->layout == 0 ? 0x6B : 0x49;
-    gives(&expected, track, 4, STATION_ANSWER_OPEN_MARK);
+    gives(&expected, track, 4, STATION_ANSWER_OPEN_MARK, place_of(track, 4));
     /* the identifier of 5 in the place of that of 6 */
     memcpy(image + identifier_of(track, 6), image + identifier_of(track, 5), mark + 12);
-    gives(&expected, track, 5, STATION_ANSWER_DOUBLED);
-    gives(&expected, track, 6, STATION_ANSWER_NO_IDENTIFIER);
+    gives(&expected, track, 5, STATION_ANSWER_DOUBLED, STATION_NO_PLACE);
+    gives(&expected, track, 6, STATION_ANSWER_NO_IDENTIFIER, STATION_NO_PLACE);
     reads(track, track->image, area, &expected);
     /* the address of 7: its EDC is wrong */
     turn(image, 8 * (identifier_of(track, 7) + mark) + 1);
-    gives(&expected, track, 7, STATION_ANSWER_NO_IDENTIFIER);
+    gives(&expected, track, 7, STATION_ANSWER_NO_IDENTIFIER, STATION_NO_PLACE);
     expected.counts[0] = 1;
     reads(track, track->image, area, &expected);
     /* the capture ends in the block of the last sector */
-    gives(&expected, track, track->sectors, STATION_ANSWER_PAST_END);
+    gives(&expected, track, track->sectors, STATION_ANSWER_PAST_END, place_of(track, track->sectors));
     reads(track, mark_of(track, track->sectors) + mark + 2 * track->size + 3, area, &expected);
+}
+
+/* 01, "Small facts": the first data mark of layout 0 begins at image byte 206, of the others at 404. Then all cells, and all places, some later. */
+static void places(const struct track *track) {
+    size_t later, sector, last = track->sectors, mark = track->mark_length;
+    struct expected expected;
+    fresh(track, data, marks, image);
+    expected = whole(track);
+    SAME(expected.records[0].place, track->layout == 0 ? 8 * 206 : 8 * 404);
+    /* a data cell of 2, the open mark at 4, and the capture ends in the block of the last */
+    turn(image, 8 * (mark_of(track, 2) + mark) + 3);
+    gives(&expected, track, 2, STATION_ANSWER_WRONG_EDC, place_of(track, 2));
+    image[mark_of(track, 4) + mark - 1] = track->layout == 0 ? 0x6B : 0x49;
+    gives(&expected, track, 4, STATION_ANSWER_OPEN_MARK, place_of(track, 4));
+    gives(&expected, track, last, STATION_ANSWER_PAST_END, place_of(track, last));
+    for (later = 0; later < 9; later++) {
+        reads(track, mark_of(track, last) + mark + 9, last * track->size, &expected);
+        move_on(image, track->image + later);
+        for (sector = 1; sector <= last; sector++)
+            expected.records[sector - 1].place++;
+    }
 }
 
 /* Another cylinder was asked for: all identifiers are foreign. */
@@ -91,7 +117,7 @@ static void foreign(const struct track *track) {
     asked.cylinder = 33;
     memset(&expected, 0, sizeof expected);
     for (sector = 1; sector <= track->sectors; sector++)
-        gives(&expected, track, sector, STATION_ANSWER_NO_IDENTIFIER);
+        gives(&expected, track, sector, STATION_ANSWER_NO_IDENTIFIER, STATION_NO_PLACE);
     expected.counts[1] = (uint32_t)track->sectors;
     fresh(track, data, marks, image);
     reads(&asked, track->image, track->sectors * track->size, &expected);
@@ -134,7 +160,7 @@ static void lengths(void) {
     size_t sector;
     memset(&expected, 0, sizeof expected);
     for (sector = 1; sector <= 8; sector++)
-        gives(&expected, &TRACKS[3], sector, STATION_ANSWER_NO_IDENTIFIER);
+        gives(&expected, &TRACKS[3], sector, STATION_ANSWER_NO_IDENTIFIER, STATION_NO_PLACE);
     memset(image, 0xFF, sizeof image);
     reads(&TRACKS[3], 1, 8192, &expected);
     reads(&TRACKS[3], LONGEST, 8192, &expected);
@@ -145,6 +171,7 @@ void read_test(void) {
     for (i = 0; i < 4; i++) {
         read_back(&TRACKS[i]);
         damaged(&TRACKS[i]);
+        places(&TRACKS[i]);
         refusals(&TRACKS[i]);
     }
     foreign(&TRACKS[2]);

@@ -51,7 +51,7 @@ static void plans(const struct track *track) {
         request.mark = sector % 2 ? STATION_MARK_DATA : STATION_MARK_CONTROL;
         contents[0] = 0x44;
         plan[0] = track->layout;
-        plan[1] = (uint32_t)(8 * mark_of(track, sector));
+        plan[1] = place_of(track, sector);
         plan[2] = 0;
         plan[3] = (uint32_t)(2 * track->size + (track->layout == 0 ? 6 : 7));
         requests(request, 0, plan);
@@ -92,7 +92,7 @@ static void unreadable(const struct track *track) {
     struct request r = like(track);
     uint32_t plan[4];
     fresh(track, data, marks, image);
-    plan[0] = track->layout, plan[1] = (uint32_t)(8 * mark_of(track, 2)), plan[2] = 0;
+    plan[0] = track->layout, plan[1] = place_of(track, 2), plan[2] = 0;
     plan[3] = (uint32_t)(2 * track->size + (track->layout == 0 ? 6 : 7));
     turn(image, 8 * (mark_of(track, 2) + track->mark_length) + 3);
     requests(r, 0, plan);
@@ -108,11 +108,8 @@ static void unreadable(const struct track *track) {
 
 /* All cells one later: every block can be read, none is on a byte boundary. */
 static void off_boundary(const struct track *track) {
-    size_t i;
     fresh(track, data, marks, image);
-    for (i = track->image; i > 0; i--)
-        image[i] = (uint8_t)(image[i] >> 1 | image[i - 1] << 7);
-    image[0] >>= 1;
+    move_on(image, track->image);
     refused(like(track), 11);
 }
 

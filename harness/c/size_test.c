@@ -16,7 +16,8 @@ static const struct size {
 };
 
 static uint8_t data[STATION_LONGEST_AREA + 1], marks[STATION_MOST_SECTORS + 1], image[STATION_LONGEST_IMAGE + 1];
-static uint8_t answers[STATION_MOST_SECTORS], area[STATION_LONGEST_AREA + 1];
+static uint8_t area[STATION_LONGEST_AREA + 1];
+static struct station_record records[STATION_MOST_SECTORS];
 
 static uint8_t formats(const struct track *track, size_t data_length, size_t count, size_t image_length) {
     return station_format(track->layout, track->cylinder, track->side, data, data_length, marks, count, image, image_length);
@@ -24,12 +25,13 @@ static uint8_t formats(const struct track *track, size_t data_length, size_t cou
 
 static uint8_t reads(const struct track *track, size_t image_length, size_t area_length) {
     uint32_t counts[2];
-    return station_read(track->layout, track->cylinder, track->side, image, image_length, area, area_length, answers, counts);
+    return station_read(track->layout, track->cylinder, track->side, image, image_length, area, area_length, records, counts);
 }
 
 static uint8_t picks(uint32_t layout, size_t sector, size_t length) {
+    struct station_record picked;
     uint32_t taken[3];
-    return station_pick(layout, (uint32_t)sector, area, length, answers, area, length, answers, taken);
+    return station_pick(layout, (uint32_t)sector, area, length, records, area, length, records, taken, &picked);
 }
 
 static uint8_t asks(const struct track *track, size_t sector, size_t length) {

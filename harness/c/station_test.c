@@ -32,6 +32,10 @@ static void numbers(void) {
     SAME(STATION_ANSWER_WRONG_EDC, 26);
     SAME(STATION_MARK_DATA, 0xFB);
     SAME(STATION_MARK_CONTROL, 0xF8);
+    SAME(STATION_NO_PLACE, UINT32_MAX);
+    /* a record is its numbers, one after the other */
+    SAME(sizeof(struct station_record), 2 * sizeof(uint32_t));
+    SAME(offsetof(struct station_record, place), sizeof(uint32_t));
 }
 
 /* 01, "Small facts" and the rule that data followed by its EDC leaves the register zero. */

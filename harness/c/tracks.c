@@ -1,7 +1,6 @@
 #include "tracks.h"
 
 #include "check.h"
-#include "station.h"
 
 const struct track TRACKS[4] = {
     {0, 0, 0, 26, 128, 10416, 158, 206, 2, 376},
@@ -33,10 +32,6 @@ void fill_marks(const struct track *track, uint8_t *marks) {
         marks[i] = i % 3 == 2 ? STATION_MARK_CONTROL : STATION_MARK_DATA;
 }
 
-uint8_t answer_of(const uint8_t *marks, size_t sector) {
-    return marks[sector - 1] == STATION_MARK_CONTROL ? STATION_ANSWER_CONTROL : STATION_ANSWER_DATA;
-}
-
 void fresh(const struct track *track, uint8_t *data, uint8_t *marks, uint8_t *image) {
     fill_data(track, 0, data);
     fill_marks(track, marks);
@@ -45,6 +40,29 @@ void fresh(const struct track *track, uint8_t *data, uint8_t *marks, uint8_t *im
          STATION_DONE);
 }
 
+struct station_record record(uint32_t answer, uint32_t place) {
+    struct station_record made;
+    made.answer = answer;
+    made.place = place;
+    return made;
+}
+
+uint32_t place_of(const struct track *track, size_t sector) {
+    return (uint32_t)(8 * mark_of(track, sector));
+}
+
+struct station_record record_of(const struct track *track, const uint8_t *marks, size_t sector) {
+    return record(marks[sector - 1] == STATION_MARK_CONTROL ? STATION_ANSWER_CONTROL : STATION_ANSWER_DATA, place_of(track, sector));
+}
+
 void turn(uint8_t *image, size_t cell) {
     image[cell / 8] ^= (uint8_t)(0x80u >> cell % 8);
+}
+
+void move_on(uint8_t *image, size_t length) {
+    size_t i;
+    image[length] = 0;
+    for (i = length; i > 0; i--)
+        image[i] = (uint8_t)(image[i] >> 1 | image[i - 1] << 7);
+    image[0] >>= 1;
 }

@@ -2,6 +2,8 @@
 #ifndef TRACKS_H
 #define TRACKS_H
 
+#include "station.h"
+
 #include <stddef.h>
 #include <stdint.h>
 
@@ -27,13 +29,20 @@ void fill_data(const struct track *track, uint8_t seed, uint8_t *data);
 /* Data records, but every third sector a control record. */
 void fill_marks(const struct track *track, uint8_t *marks);
 
-/* The answer that goes with the mark which `fill_marks` gave. */
-uint8_t answer_of(const uint8_t *marks, size_t sector);
-
 /* A formatted track with the data and marks above. */
 void fresh(const struct track *track, uint8_t *data, uint8_t *marks, uint8_t *image);
 
+/* A record of these numbers. */
+struct station_record record(uint32_t answer, uint32_t place);
+
+/* The cell at which the mark of a sector begins on a formatted track, and the record that goes with the mark which `fill_marks` gave. */
+uint32_t place_of(const struct track *track, size_t sector);
+struct station_record record_of(const struct track *track, const uint8_t *marks, size_t sector);
+
 /* Turns one cell of an image. */
 void turn(uint8_t *image, size_t cell);
+
+/* Moves all cells of an image one later, into one byte more. */
+void move_on(uint8_t *image, size_t length);
 
 #endif

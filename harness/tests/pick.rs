@@ -1,8 +1,10 @@
-//! The pick from two passes: the reference against the papers (01, "Two passes"), and `station_pick` against the
-//! reference.
-use harness::compare::pick::{answers, compare, Call, Pass};
+//! The pick from two passes: the reference against the papers (01, "Two passes"; 02, request 01), and `station_pick`
+//! against the reference.
+use harness::compare::pick::{compare, Call, Outcome, Pass};
 use harness::reference::pick::{pick, Pick};
+use harness::reference::records::{at, nowhere};
 use harness::rng::Rng;
+use harness::station::{Record, MOST_SECTORS, NO_PLACE};
 use harness::tally::met::{Row, ANSWERS};
 use harness::tally::Tally;
 use harness::tracks;
@@ -14,28 +16,65 @@ fn first_before_second_before_neither() {
     for track in tracks::all() {
         let layout = track.layout();
         let size = layout.size;
-        let (first, second) = (Pass::all(track, 0x11, 22), Pass::all(track, 0x22, 22));
+        let (first, second) = (Pass::all(track, 0x11, nowhere(22)), Pass::all(track, 0x22, nowhere(22)));
         let mut call = Call { layout: track.layout, sector: 1, first, second };
         for sector in 1..=layout.sectors {
             for (one, other) in ANSWERS.into_iter().flat_map(|one| ANSWERS.map(|other| (one, other))) {
-                (call.first.reading, call.second.reading) = (answers([22; 26]), answers([22; 26]));
-                call.first.reading.answers[sector - 1] = one;
-                call.second.reading.answers[sector - 1] = other;
+                // the passes' own places, so that one is not taken for the other
+                let (one, other) = (at(one.into(), 1_000 + sector), at(other.into(), 2_000 + sector));
+                call.first.records = [nowhere(22); MOST_SECTORS];
+                call.second.records = [nowhere(22); MOST_SECTORS];
+                (call.first.records[sector - 1], call.second.records[sector - 1]) = (one, other);
                 call.sector = sector as u32;
                 let Call { layout, sector: number, first, second } = &call;
                 let picked = pick(*layout, *number, first.lent(), second.lent());
                 let slot = (sector - 1) * size..sector * size;
-                let place = [slot.start as u32, size as u32];
-                let (expected, numbers) = match (one <= 2, other <= 2) {
-                    (true, _) => (Pick::First(one, &first.area[slot]), (one, [1, place[0], place[1]])),
-                    (false, true) => (Pick::Second(other, &second.area[slot]), (other, [2, place[0], place[1]])),
-                    (false, false) => (Pick::Neither(one), (one, [0; 3])),
+                let [start, length] = [slot.start as u32, size as u32];
+                let (expected, numbers) = match (one.answer <= 2, other.answer <= 2) {
+                    (true, _) => (Pick::First(one, &first.area[slot]), Outcome::new([1, start, length], one)),
+                    (false, true) => (Pick::Second(other, &second.area[slot]), Outcome::new([2, start, length], other)),
+                    (false, false) => (Pick::Neither(one), Outcome::new([0; 3], one)),
                 };
-                assert_eq!(picked, expected, "sector {sector}, answers {one} and {other}: {track:?}");
+                assert_eq!(picked, expected, "sector {sector}, records {one:?} and {other:?}: {track:?}");
                 let found = compare(&mut tally, &mut rng, &call);
-                assert_eq!(found, numbers, "sector {sector}, {one} and {other}: {track:?}");
+                assert_eq!(found, numbers, "sector {sector}, {one:?} and {other:?}: {track:?}");
             }
         }
+    }
+    tally.report();
+}
+
+/// The record that is handed on, in numbers: that of the pass taken, of the first pass where neither answered 1 or 2, and
+/// none of a refused call.
+#[test]
+fn the_record_that_is_handed_on() {
+    // the passes' own places
+    const ONE: u32 = 8 * 404;
+    const TWO: u32 = 8 * 404 + 1;
+    let mut rng = Rng::new(5);
+    let mut tally = Tally::new("pick", "the record that is handed on");
+    let (right, short) = (26 * 256, 26 * 256 - 1);
+    // both passes' records and the length of the second area; number, what is taken, the record
+    let cases = [
+        ([[1, ONE], [2, TWO]], right, 1, [1, 512, 256], [1, ONE]),
+        ([[2, 0], [26, TWO]], right, 2, [1, 512, 256], [2, 0]),
+        ([[26, ONE], [2, TWO]], right, 2, [2, 512, 256], [2, TWO]),
+        ([[24, ONE], [23, NO_PLACE]], right, 24, [0, 0, 0], [24, ONE]),
+        ([[21, NO_PLACE], [25, TWO]], right, 21, [0, 0, 0], [21, NO_PLACE]),
+        // no answer's number is handed on as 21, and the place as it is
+        ([[257, ONE], [258, TWO]], right, 21, [0, 0, 0], [21, ONE]),
+        ([[0, 0], [26, TWO]], right, 21, [0, 0, 0], [21, 0]),
+        ([[u32::MAX, ONE], [1, NO_PLACE]], right, 1, [2, 512, 256], [1, NO_PLACE]),
+        ([[1, ONE], [1, TWO]], short, 5, [0, 0, 0], [0, 0]),
+        ([[26, ONE], [23, NO_PLACE]], short, 5, [0, 0, 0], [0, 0]),
+    ];
+    for ([one, other], length, number, taken, record) in cases {
+        let [one, other, record] = [one, other, record].map(|[answer, place]| Record { answer, place });
+        let (mut first, mut second) = (Pass::all(tracks::MFM, 1, at(1, 1)), Pass::all(tracks::MFM, 2, at(2, 2)));
+        (first.records[2], second.records[2]) = (one, other);
+        second.area.resize(length, 2);
+        let found = compare(&mut tally, &mut rng, &Call { layout: 1, sector: 3, first, second });
+        assert_eq!(found, Outcome { number, taken, record }, "{one:?} and {other:?}");
     }
     tally.report();
 }
@@ -45,16 +84,23 @@ fn every_pair_of_numbers() {
     let mut rng = Rng::new(2);
     let mut tally = Tally::new("pick", "every pair of numbers in the answers");
     let mut call = Call::new(&mut rng, tracks::FM);
-    for one in 0..=0xFF {
-        for other in 0..=0xFF {
-            (call.first.reading.answers[7], call.second.reading.answers[7], call.sector) = (one, other, 8);
+    call.sector = 8;
+    // all bytes, and numbers whose low byte is an answer's
+    let high = ANSWERS.into_iter().flat_map(|low| [8, 16, 31].map(|high| 1 << high | u32::from(low)));
+    let numbers: Vec<u32> = (0..=0xFF).chain(high).chain([u32::MAX]).collect();
+    for &one in &numbers {
+        for &other in &numbers {
+            let places = [rng.bits() as u32, rng.bits() as u32];
+            call.first.records[7] = Record { answer: one, place: places[0] };
+            call.second.records[7] = Record { answer: other, place: places[1] };
             // a number that is no answer's counts as 21
-            let expected = match (one, other) {
-                (1 | 2, _) => (one, [1, 7 * 128, 128]),
-                (_, 1 | 2) => (other, [2, 7 * 128, 128]),
-                (21..=26, _) => (one, [0; 3]),
-                _ => (21, [0; 3]),
+            let (taken, answer, place) = match (one, other) {
+                (1 | 2, _) => ([1, 7 * 128, 128], one, places[0]),
+                (_, 1 | 2) => ([2, 7 * 128, 128], other, places[1]),
+                (21..=26, _) => ([0; 3], one, places[0]),
+                _ => ([0; 3], 21, places[0]),
             };
+            let expected = Outcome::new(taken, Record { answer, place });
             assert_eq!(compare(&mut tally, &mut rng, &call), expected, "{one} and {other}");
         }
     }
@@ -62,10 +108,10 @@ fn every_pair_of_numbers() {
 }
 
 #[test]
-fn random_answers() {
+fn random_records() {
     const INPUTS: usize = 5_000;
     let mut rng = Rng::new(3);
-    let mut tally = Tally::new("pick", "random answers");
+    let mut tally = Tally::new("pick", "random records");
     for _ in 0..INPUTS {
         let track = tracks::any(&mut rng);
         let call = Call::new(&mut rng, track);
@@ -77,7 +123,7 @@ fn random_answers() {
 #[test]
 fn refusals() {
     let mut tally = Tally::of_reference("pick", "refusals");
-    let right = Pass::all(tracks::FM, 0, 1);
+    let right = Pass::all(tracks::FM, 0, at(1, 404));
     let short = Pass { area: vec![0; 26 * 128 - 1], ..right.clone() };
     for (layout, sector, first, second, number) in [
         (4, 0, &short, &short, 4),
@@ -94,7 +140,7 @@ fn refusals() {
         tally.input();
         tally.met(Row::Pick, number);
     }
-    assert_eq!(pick(0, 26, right.lent(), right.lent()), Pick::First(1, &right.area[25 * 128..]));
+    assert_eq!(pick(0, 26, right.lent(), right.lent()), Pick::First(at(1, 404), &right.area[25 * 128..]));
     tally.report();
 }
 
@@ -121,7 +167,7 @@ fn any_numbers_and_lengths() {
                     _ => None,
                 };
                 let outcome = compare(&mut tally, &mut rng, &call);
-                let expected = refusal.map_or(outcome, |number| (number, [0; 3]));
+                let expected = refusal.map_or(outcome, Outcome::refused);
                 assert_eq!(outcome, expected, "layout {layout}, sector {sector}, areas of {one} and {other} bytes");
             }
         }

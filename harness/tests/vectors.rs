@@ -1,6 +1,7 @@
-//! The kept vectors: what is printed for each, by the library, by the reference and by the literal reader.
-use harness::reference::dump::{dump, dump_by};
-use harness::reference::plain;
+//! The kept vectors: what is printed for each, and its records, by the library, by the reference and by the literal
+//! reader.
+use harness::reference::dump::{dump, dump_by, records_by};
+use harness::reference::{plain, read};
 use harness::station;
 use harness::tally::Tally;
 use std::fs;
@@ -18,6 +19,10 @@ fn kept_vectors() {
         assert_eq!(dump_by(station::read, &input), expected, "{line}");
         assert_eq!(dump(&input), expected, "reference: {line}");
         assert_eq!(dump_by(plain::read, &input), expected, "literal reader: {line}");
+        let records = fs::read_to_string(place.with_extension("records")).expect("a vector's records");
+        assert_eq!(records_by(station::read, &input), records, "records: {line}");
+        assert_eq!(records_by(read::read, &input), records, "the reference's records: {line}");
+        assert_eq!(records_by(plain::read, &input), records, "the literal reader's records: {line}");
         tally.input();
     }
     tally.report();

@@ -1,14 +1,15 @@
 -- What a sector answers, and the papers' numbers of it (01, "How a track is read").
 use mathlib.Core.Bool.{Bool, true, false, cond}
 use mathlib.Core.List.{List, [], _∷_}
-use Prim.Native.Nat.{ℕ}
+use Prim.Native.Nat.{ℕ, _-_}
 use lib.Dec.{eqb}
-use lib.ListN.{replicate}
+use lib.ListN.{getD, replicate}
 use Rattle.layouts.specs.Layouts.{mostSectors}
 use Rattle.answers.specs.declared.Fault.{Fault}
 use Rattle.answers.specs.declared.Fault.the-variants.{NoIdentifier, Doubled, NoBlock, PastEnd, OpenMark, WrongEdc}
 use Rattle.answers.specs.declared.Answer.{Answer}
 use Rattle.answers.specs.declared.Answer.the-variants.{Data, Control, Refused}
+use Rattle.answers.specs.declared.Answered.{Answered}
 use Rattle.answers.specs.declared.Record.{Record}
 use Rattle.answers.specs.declared.Records.{Records}
 
@@ -54,10 +55,19 @@ carries (Refused fault) = false
 carries Data = true
 carries Control = true
 
--- The record of a sector of which nothing is known; also what the logic reads past an array's end, where no index reaches.
-abbrev pub unread : Record
-unread = record { answer = Refused NoIdentifier }
+-- The place of a sector that has none (02, Req 01).
+abbrev pub noPlace : ℕ
+noPlace = 4294967295
+
+-- What a sector answers of which nothing is known; also what the logic reads past the end of the answers, where no index reaches.
+abbrev pub unanswered : Answered
+unanswered = record { answer = Refused NoIdentifier }
 
 -- The records of a track of which nothing is known.
 abbrev pub unreadRecords : Records
-unreadRecords = record { list = replicate mostSectors unread }
+unreadRecords = record { answers = replicate mostSectors unanswered; places = replicate mostSectors noPlace }
+
+-- The record of a sector. There is one for every sector number that passes.
+abbrev pub recordAt : Records → ℕ → Record
+recordAt records sector =
+    record { answer = getD (records .answers) (sector - 1) unanswered .answer; place = getD (records .places) (sector - 1) 0 }

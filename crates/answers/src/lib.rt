@@ -28,26 +28,38 @@ pub enum Answer {
     Control,
 }
 
+// The place of a sector that has none: no image has such a cell.
+pub const NO_PLACE: u32 = 4294967295;
+
 // What is known of one sector.
 pub struct Record {
     pub answer: Answer,
+    // the cell at which its data, control or open mark begins; NO_PLACE for 21, 22 and 23
+    pub place: u32,
 }
 
-// The records of a track.
+// What one sector answers, where the answers of all stand in a list.
+pub struct Answered {
+    pub answer: Answer,
+}
+
+// The records of a track, by sector number, from 1 on: a list for each field of a record. So they are filled and copied as words; between the
+// fields of 26 records there would be bytes of no use, and each field would be moved by itself.
 pub struct Records {
-    // by sector number, from 1 on
-    pub list: [Record; MOST_SECTORS],
+    pub answers: [Answered; MOST_SECTORS],
+    pub places: [u32; MOST_SECTORS],
 }
 
 // The records of a track of which nothing is known.
 pub fn unread_records() -> Records
     ensures { λ r. ⌜ AreUnread r ⌝ }
 {
-    let unread = Record {
+    let unanswered = Answered {
         answer: Answer::Refused(Fault::NoIdentifier),
     };
     Records {
-        list: [unread; MOST_SECTORS],
+        answers: [unanswered; MOST_SECTORS],
+        places: [NO_PLACE; MOST_SECTORS],
     }
 }
 

@@ -69,8 +69,8 @@ fn print_answers(sectors: usize, records: Records) -> bool {
     let mut index = 0;
     while index < MOST_SECTORS {
         if index < sectors {
-            let record = records.list[index];
-            let answer = record.answer;
+            let answered = records.answers[index];
+            let answer = answered.answer;
             let number = answers::answer_number(answer);
             if !print_line(index as u64 + 1, number as u64) {
                 return false;

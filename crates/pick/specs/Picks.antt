@@ -3,15 +3,15 @@
 use mathlib.Core.Bool.{cond}
 use mathlib.Core.List.{List, [], _∷_, _++_}
 use mathlib.Core.Path.{_≡_}
-use Prim.Native.Nat.{ℕ, _-_}
-use lib.ListN.{getD, length}
+use Prim.Native.Nat.{ℕ}
+use lib.ListN.{length}
 use Rattle.layouts.specs.Layouts.{layoutOf, slotIn}
 use Rattle.layouts.specs.Refusals.{numberTest}
 use Rattle.calls.specs.Refusals.{areaTest, sectorTest}
 use Rattle.layouts.specs.declared.Layout.{Layout}
 use Rattle.calls.specs.declared.Refusal.{Refusal}
 use Rattle.verdicts.specs.Tests.{Test, refusal, by}
-use Rattle.answers.specs.Answers.{carries, unread}
+use Rattle.answers.specs.Answers.{carries, recordAt}
 use Rattle.answers.specs.declared.Record.{Record}
 use Rattle.answers.specs.declared.Records.{Records}
 use Rattle.pick.specs.declared.Choice.{Choice}
@@ -25,10 +25,6 @@ areaTests l sector first second =
 -- The refusals of a pick, in the papers' order: 4, 9, 5 (01, "Refused calls").
 unfoldable pub pickTests : (layout sector first second : ℕ) → List (Test Refusal)
 pickTests layout sector first second = (numberTest layout ∷ []) ++ areaTests (layoutOf layout) sector first second
-
--- The record of a sector. There is one for every sector number that passes.
-abbrev pub recordAt : Records → ℕ → Record
-recordAt records sector = getD (records .list) (sector - 1) unread
 
 -- The pass that answered, the first before the second; if neither did, the first pass's record.
 abbrev pub choice : Record → Record → Choice

@@ -7,7 +7,8 @@ ghost use mathlib.Core.Path.{_≡_};
 ghost use Prim.Native.Nat.{_*_, _≤_};
 ghost use lib.ListN.{length};
 ghost use Rattle.layouts.specs.Layouts.{mostSectors, slotIn};
-ghost use Rattle.pick.specs.Picks.{recordAt, choice, stretchIn};
+ghost use Rattle.answers.specs.Answers.{recordAt};
+ghost use Rattle.pick.specs.Picks.{choice, stretchIn};
 
 // The pass whose record carries bytes, the first before the second.
 pub(crate) fn chosen_pass(first: Record, second: Record) -> Choice
@@ -30,8 +31,12 @@ pub(crate) fn record_at(records: Records, sector: u32) -> Record
     ensures { λ r. ⌜ r ≡ recordAt records sector ⌝ }
 {
     let at = sector as usize - 1;
-    let record = records.list[at];
-    record
+    let answered = records.answers[at];
+    let answer = answered.answer;
+    Record {
+        answer,
+        place: records.places[at],
+    }
 }
 
 // The slot of a sector that there is.

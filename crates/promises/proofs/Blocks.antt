@@ -9,9 +9,8 @@ use lib.Dec.{eqb}
 use Rattle.cells.specs.Cells.{dataBytes}
 use Rattle.layouts.specs.declared.Track.{Track}
 use Rattle.marks.specs.Marks.{markByte, markCells, markOf, stands}
-use Rattle.marks.specs.declared.Mark.{Mark}
 use Rattle.marks.specs.declared.Mark.the-variants as marks
-use Rattle.marks.proofs.Spelling.{one-mark, is-false}
+use Rattle.read.proofs.Answering.{other-mark}
 use Rattle.read.specs.Records.{Sector, answering, proved, blockAnswer, blockBytes, identifierRecord, recordFor, sectorOf}
 use Rattle.answers.specs.Answers.{answerNumber}
 use Rattle.answers.specs.declared.Answer.{Answer}
@@ -29,24 +28,20 @@ pub so-same : {x y : Sector} {back : Back} → x ≡ y → ReadsSo y back → Re
 so-same e r = record { answers = ap (λ (z : Sector). answerNumber (z .known .answer)) e ∙ r .answers; holds = ap (λ (z : Sector). z .slot) e ∙ r .holds }
 
 module _ (t : Track) (c : ℕ → ℕ) (n m : ℕ) where
-  -- Where one mark stands another does not.
-  other-mark : (j k : Mark) → (j ≡ k → ⊥) → stands (t .layout .mode) c n j m ≡ true → stands (t .layout .mode) c n k m ≡ false
-  other-mark j k h e = is-false (stands (t .layout .mode) c n k m) (λ f. h (one-mark (t .layout .mode) c n m j k e f))
-
   -- What a block answers after the mark that was asked for, control or data, where its EDC is right.
   asked-answer : (asked : Bool) → stands (t .layout .mode) c n (cond asked marks.Control marks.Data) m ≡ true
       → edcRight (t .layout .mode) c (cond asked marks.Control marks.Data) (m + markCells (t .layout .mode)) (t .layout .size + 2) ≡ true
       → blockAnswer t c n m ≡ cond asked Control Data
   unfolding blockAnswer proved
-  asked-answer true e right = let no = other-mark marks.Control marks.Open (λ q. clash cc) e in rw (no, e, right)
+  asked-answer true e right = let no = other-mark t c n m marks.Control marks.Open (λ q. clash cc) e in rw (no, e, right)
   asked-answer false e right =
-      let no = other-mark marks.Data marks.Open (λ q. clash cc) e in
-      let nor = other-mark marks.Data marks.Control (λ q. clash cc) e in
+      let no = other-mark t c n m marks.Data marks.Open (λ q. clash cc) e in
+      let nor = other-mark t c n m marks.Data marks.Control (λ q. clash cc) e in
       rw (no, nor, right)
 
   -- The number of such an answer, and what it leaves of the bytes.
   asked-so : (asked : Bool) (bytes : List ℕ)
-      → ReadsSo (answering (t .layout .size) (cond asked Control Data) bytes) (record { number = cond asked 2 1; bytes = bytes })
+      → ReadsSo (answering (t .layout .size) (cond asked Control Data) m bytes) (record { number = cond asked 2 1; bytes = bytes })
   asked-so true bytes = record { answers = refl; holds = refl }
   asked-so false bytes = record { answers = refl; holds = refl }
 
@@ -57,14 +52,19 @@ module _ (t : Track) (c : ℕ → ℕ) (n m : ℕ) where
       → ReadsSo (identifierRecord t c n (Within m)) (readsBack (t .cylinder) mark bytes)
   unfolding identifierRecord blockBytes
   written-so mark bytes e held right =
-      so-same (ap (λ (a : Answer). answering (t .layout .size) a (blockBytes t c n m)) (asked-answer (eqb mark (markByte marks.Control)) e right))
-      (so-same (ap (λ (xs : List ℕ). answering (t .layout .size) (cond (eqb mark (markByte marks.Control)) Control Data) xs) held)
+      so-same (ap (λ (a : Answer). answering (t .layout .size) a m (blockBytes t c n m)) (asked-answer (eqb mark (markByte marks.Control)) e right))
+      (so-same (ap (λ (xs : List ℕ). answering (t .layout .size) (cond (eqb mark (markByte marks.Control)) Control Data) m xs) held)
       (asked-so (eqb mark (markByte marks.Control)) bytes))
 
   -- While the open mark stands a block is refused for that, and its slot is all zero.
   pub open-so : stands (t .layout .mode) c n marks.Open m ≡ true → ReadsSo (identifierRecord t c n (Within m)) (underWay (t .layout .size))
   unfolding identifierRecord blockAnswer
   open-so e = record { answers = rw e; holds = rw e }
+
+  -- The place is that of its mark.
+  pub block-placed : identifierRecord t c n (Within m) .known .place ≡ m
+  unfolding identifierRecord
+  block-placed = refl
 
 -- A sector of the layout whose only accepted identifier gave this block is what the block makes of it.
 pub alone-so : (t : Track) (c : ℕ → ℕ) (n : ℕ) (es : List Event) (s : ℕ) (b : Block) → s ≤ t .layout .sectors → blocks s es ≡ b ∷ []

@@ -59,7 +59,7 @@ in-all plan bytes known = rw (le-ltb highest (plan .layout) known)
 
 module _ (layout cylinder side sector mark : ℕ) (contents image plan : List ℕ)
     (gives : GivesRequest layout cylinder side sector mark contents image 0 plan) where
-  asked : Requests layout cylinder side sector mark contents image (request.Planned (numberedPlan plan))
+  pub asked : Requests layout cylinder side sector mark contents image (request.Planned (numberedPlan plan))
   asked = planned (requestAnswer layout cylinder side sector mark contents image) plan (length image) (gives .numbered) (gives .notes) .0
 
   in-numbers : plan ≡ planNumbers (numberedPlan plan) (length image)

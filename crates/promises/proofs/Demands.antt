@@ -13,9 +13,9 @@ use Rattle.calls.specs.declared.Checked.the-variants.{Passed, Refused}
 use Rattle.calls.specs.declared.Refusal.{Refusal}
 use Rattle.calls.proofs.Refusals.{number-told, numbers-apart, number-known}
 use Rattle.read.specs.Records.{slotOf, refused as refusing, blockAnswer, blockBytes, identifierRecord, recordFor, sectorOf, areaOf}
-use Rattle.answers.specs.Answers.{answerNumber, carries}
-use Rattle.read.specs.Outcomes.{reading, refusedReading, readTests, readAnswer, readArea}
-use Rattle.pick.specs.Picks.{recordAt, choice, pickTests, chosenOf, stretchIn}
+use Rattle.answers.specs.Answers.{answerNumber, carries, noPlace, recordAt}
+use Rattle.read.specs.Outcomes.{reading, refusedReading, readTests, readAnswer, readArea, Reads}
+use Rattle.pick.specs.Picks.{choice, pickTests, chosenOf, stretchIn}
 use Rattle.answers.specs.declared.Answer.{Answer}
 use Rattle.answers.specs.declared.Answer.the-variants as answers
 use Rattle.pick.specs.declared.Choice.the-variants.{First, Second, Neither}
@@ -78,8 +78,8 @@ refused-slots-are-zero t image s h = go (leb s (t .layout .sectors)) (blocks s (
     n : ℕ
     n = 8 * length image
 
-    go : (b : Bool) (bs : List Block) → 21 ≤ answerNumber (cond b (recordFor t c n bs) (refusing (t .layout .size) NoIdentifier) .known .answer)
-        → cond b (recordFor t c n bs) (refusing (t .layout .size) NoIdentifier) .slot ≡ replicate (t .layout .size) 0
+    go : (b : Bool) (bs : List Block) → 21 ≤ answerNumber (cond b (recordFor t c n bs) (refusing (t .layout .size) NoIdentifier noPlace) .known .answer)
+        → cond b (recordFor t c n bs) (refusing (t .layout .size) NoIdentifier noPlace) .slot ≡ replicate (t .layout .size) 0
     go false bs h = refl
     go true [] h = refl
     go true (Missing ∷ []) h = refl
@@ -92,14 +92,29 @@ pub taken : {A : Type 0} (v : Verdict Refusal) → v ≡ passed → (this : A) (
 unfolding by
 taken v e this that = rw e
 
+module _ (layout cylinder side : ℕ) (image : List ℕ) (given : ℕ) (answer : Reading) (after : List ℕ)
+    (p : Reads layout cylinder side image given answer after) (passes : answer .verdict ≡ Passed) where
+  -- A read that is not refused: its tests pass,
+  pub tests-passed : refusal (readTests layout cylinder side (length image) given) ≡ passed
+  unfolding readAnswer
+  tests-passed =
+      let v = refusal (readTests layout cylinder side (length image) given) in
+      by-passed Passed Refused (λ f e. clash cc) (λ g f e. cc) v (answer .verdict)
+      (ap (λ (r : Reading). r .verdict) (p .answers) ∙ by-map (λ (r : Reading). r .verdict) v (reading (trackOf layout cylinder side) image) refusedReading)
+      passes
+
+  -- and it hands back what its track holds.
+  pub passed-reading : answer ≡ reading (trackOf layout cylinder side) image
+  unfolding readAnswer
+  passed-reading = p .answers ∙ taken _ tests-passed (reading (trackOf layout cylinder side) image) refusedReading
+
 pub refused-sectors-leave-zeros : RefusedSectorsLeaveZeros
-unfolding readAnswer readArea
+unfolding readArea
 refused-sectors-leave-zeros layout cylinder side image given answer after s p passes number high =
     let t = trackOf layout cylinder side in
+    let accepted = tests-passed layout cylinder side image given answer after p passes in
+    let told = passed-reading layout cylinder side image given answer after p passes in
     let v = refusal (readTests layout cylinder side (length image) given) in
-    let accepted : v ≡ passed = by-passed Passed Refused (λ f e. clash cc) (λ g f e. cc) v (answer .verdict)
-    (ap (λ (r : Reading). r .verdict) (p .answers) ∙ by-map (λ (r : Reading). r .verdict) v (reading t image) refusedReading) passes in
-    let told : answer ≡ reading t image = p .answers ∙ taken v accepted (reading t image) refusedReading in
     let left : after ≡ areaOf t (cell image) (8 * length image) (met t image) = p .leaves ∙ taken v accepted _ (λ f. replicate given 0) in
     let same = ap (λ (r : Reading). answerNumber (recordAt (r .records) s .answer)) told
     ∙ ap (λ (r : Record). answerNumber (r .answer)) (record-read t image s (number .0) (number .1) (modest layout .1)) in

@@ -4,20 +4,19 @@ use mathlib.Core.Path.{_≡_, refl, sym, ap, ap₂, _∙_}
 use mathlib.Core.Bool.{Bool, true, false, cond}
 use mathlib.Core.List.{List, [], _∷_}
 use mathlib.Core.Logic.{_⊎_, inl, inr}
-use Prim.Native.Nat.{ℕ, _+_, _-_, _*_, _≤_}
+use Prim.Native.Nat.{ℕ, _+_, _-_, _*_, _<_, _≤_}
 use native.Mathlib.Omega.{arith}
 use borrow.Author.Tests.{le-leb}
-use lib.Dec.{leb}
-use lib.ListN.{length, getD, take, drop, replicate}
-use lib.Seq.{getD-drop}
+use lib.ListN.{length, getD, replicate}
 use Rattle.format.specs.Refusals.{formatTests}
-use Rattle.layouts.specs.Layouts.{layoutOf, mostSectors, numbers}
+use Rattle.layouts.specs.Layouts.{layoutOf, mostSectors, slotIn}
 use Rattle.calls.specs.Refusals.{refusalNumber}
 use Rattle.layouts.specs.Tracks.{trackOf}
+use Rattle.layouts.specs.declared.Layout.{Layout}
 use Rattle.calls.specs.declared.Checked.the-variants.{Passed, Refused}
 use Rattle.calls.specs.declared.Refusal.{Refusal}
 use Rattle.calls.proofs.Refusals.{told-passing, numbers-apart, number-known}
-use Rattle.answers.specs.Answers.{answerNumber, carries, unread}
+use Rattle.answers.specs.Answers.{answerNumber, carries, recordAt}
 use Rattle.read.specs.Records.{slots}
 use Rattle.read.specs.Outcomes.{reading, refusedReading, readTests, readAnswer, readArea}
 use Rattle.pick.specs.Picks.{areaTests, pickTests, choice, chosenOf}
@@ -27,18 +26,21 @@ use Rattle.pick.specs.declared.Choice.the-variants as pick
 use Rattle.answers.specs.declared.Fault.the-variants.{NoIdentifier, Doubled, NoBlock, PastEnd, OpenMark, WrongEdc}
 use Rattle.read.specs.declared.Reading.{Reading}
 use Rattle.answers.specs.declared.Record.{Record}
+use Rattle.answers.specs.declared.Records.{Records}
 use Rattle.read.proofs.Passing.{modest}
-use Rattle.read.proofs.Sectors.{slots-at}
+use Rattle.pick.proofs.Picking.{pickable}
+use Rattle.station.proofs.Listing.{slot-number, listed-at}
+use Rattle.station.proofs.Passes.{read-back}
 use Rattle.rewrite.specs.Outcomes.{steppedNumber}
 use Rattle.request.specs.Outcomes.{requestedNumber}
 use Rattle.request.specs.declared.Requested.the-variants as request
 use Rattle.rewrite.specs.declared.Stepped.the-variants as step
-use Rattle.station.specs.Outcomes.{verdictNumber}
-use Rattle.station.specs.Picks.{pickNumber}
+use Rattle.station.specs.Outcomes.{verdictNumber, GivesRead}
+use Rattle.station.specs.Picks.{pickNumber, handedOn, partOf}
 use Rattle.station.specs.Records.{recordWidth, recordNumbers, sectorNumbers, recordList, numberedAt}
 use Rattle.verdicts.specs.Tests.{Verdict, passed, refused, refusal, by}
 use Rattle.verdicts.proofs.Tests.{clash, exactly, by-passed, by-map}
-use Rattle.promises.specs.Doors.{Listed, DoorsRefuse, RefusedReadGivesZeros, RefusedSectorsGiveZeros, GivesBackAsWritten}
+use Rattle.promises.specs.Doors.{Listed, DoorsRefuse, answerIn, placeIn, RefusedReadGivesZeros, RefusedSectorsGiveZeros, RefusedPickGivesZeros, HandsOn, PickHandsOn, GivesBackAsWritten}
 use Rattle.promises.specs.Rewriting.{number}
 use Rattle.promises.proofs.Demands.{by-tests, taken, choice-unrefused, refused-sectors-leave-zeros}
 use Rattle.promises.proofs.formatting.Calls.{format-then-read}
@@ -96,12 +98,12 @@ doors-refuse =
     record {
       format = λ layout cylinder side contents marks before number after p.
           by-tests _ number (p .answers);
-      read = λ layout cylinder side image given number area answers counts p. by-tests _ number (p .numbered);
+      read = λ layout cylinder side image given number area records counts p. by-tests _ number (p .numbered);
       request = λ layout cylinder side sector mark contents image number plan p.
           by-tests _ number (p .numbered ∙ by-map requestedNumber _ (request.Planned _) request.Refused);
       step = λ before mark contents image number plan after p.
           by-tests _ number (p .numbered ∙ by-map steppedNumber _ (step.Made _) step.Refused);
-      pick = λ layout sector first ones second twos number taken p f listed.
+      pick = λ layout sector first ones second twos number taken handed p f listed.
           let v = refusal (pickTests layout sector (length first) (length second)) in
           let one = numberedAt ones sector in
           let two = numberedAt twos sector in
@@ -113,14 +115,14 @@ doors-refuse =
 
 pub refused-read-gives-zeros : RefusedReadGivesZeros
 unfolding readAnswer readArea recordList sectorNumbers slots by
-refused-read-gives-zeros layout cylinder side image given number area answers counts p h =
-    go (refusal (readTests layout cylinder side (length image) given)) (reading (trackOf layout cylinder side) image) _ (p .numbered) (p .leaves) (p .answered)
+refused-read-gives-zeros layout cylinder side image given number area records counts p h =
+    go (refusal (readTests layout cylinder side (length image) given)) (reading (trackOf layout cylinder side) image) _ (p .numbered) (p .leaves) (p .recorded)
     (p .counted)
   where
     go : (v : Verdict Refusal) (r : Reading) (slot : List ℕ) → number ≡ verdictNumber v → area ≡ by v slot (λ f. replicate given 0)
-        → answers ≡ recordList (by v r refusedReading .sectors) (by v r refusedReading .records .list)
+        → records ≡ recordList (by v r refusedReading .sectors) (by v r refusedReading .records)
         → counts ≡ by v r refusedReading .bad ∷ by v r refusedReading .foreign ∷ []
-        → (area ≡ replicate given 0) × (answers ≡ replicate mostSectors 0) × (counts ≡ 0 ∷ 0 ∷ [])
+        → (area ≡ replicate given 0) × (records ≡ replicate (mostSectors * recordWidth) 0) × (counts ≡ 0 ∷ 0 ∷ [])
     go passed r slot n a b c = absurd (h n)
     go (refused f) r slot n a b c = (a, b, c)
 
@@ -130,59 +132,46 @@ refused-read-gives-zeros layout cylinder side image given number area answers co
 pub none : (f : Refusal) → 0 ≡ refusalNumber f → ⊥
 none f e = let k = number-known f in absurd (omega arith)
 
--- Every record takes as many numbers.
-long : (count : ℕ) (records : List Record) (s : ℕ) → length (sectorNumbers count records s) ≡ recordWidth
+-- Number k of a sector's record in the list.
+number-in : (k : ℕ) → k < recordWidth → (count : ℕ) (records : Records) (s i : ℕ) → 1 ≤ s → s ≤ count → count ≤ mostSectors → i ≡ (s - 1) * recordWidth + k
+    → getD (recordList count records) i 0 ≡ getD (recordNumbers (recordAt records s)) k 0
 unfolding sectorNumbers
-long count records s = go (leb s count)
-  where
-    go : (b : Bool) → length (cond b (recordNumbers (getD records (s - 1) unread)) (replicate recordWidth 0)) ≡ recordWidth
-    go true = refl
-    go false = refl
+number-in k h count records s i low inside few e =
+    slot-number recordWidth k ((s - 1) * recordWidth) i (recordList count records) h e
+    ∙ ap (λ (xs : List ℕ). getD xs k 0) (listed-at count records s low (omega arith))
+    ∙ rw (le-leb s count inside)
 
-first-taken : (xs : List ℕ) → getD (take recordWidth xs) 0 0 ≡ getD xs 0 0
-first-taken [] = refl
-first-taken (x ∷ xs) = refl
+-- The first is its answer's, the second its place.
+answer-in : (count : ℕ) (records : Records) (s : ℕ) → 1 ≤ s → s ≤ count → count ≤ mostSectors
+    → answerIn (recordList count records) s ≡ answerNumber (recordAt records s .answer)
+answer-in count records s low inside few = number-in 0 (omega arith) count records s _ low inside few (omega arith)
 
--- The first number of a sector's record in the list.
-first-number : (count : ℕ) (records : List Record) (s : ℕ) → 1 ≤ s → s ≤ mostSectors
-    → getD (recordList count records) ((s - 1) * recordWidth) 0 ≡ getD (sectorNumbers count records s) 0 0
-unfolding recordList
-first-number count records s low high =
-    let list = slots (sectorNumbers count records) (numbers mostSectors 1) in
-    let at = (s - 1) * recordWidth in
-    let own = slots-at recordWidth (sectorNumbers count records) (long count records) mostSectors 1 s low (omega arith) in
-    let zero-on : at + 0 ≡ at = omega arith in
-    ap (λ (i : ℕ). getD list i 0) (sym zero-on) ∙ sym (getD-drop at list 0 0) ∙ sym (first-taken (drop at list)) ∙ ap (λ (xs : List ℕ). getD xs 0 0) own
+pub place-in : (count : ℕ) (records : Records) (s : ℕ) → 1 ≤ s → s ≤ count → count ≤ mostSectors
+    → placeIn (recordList count records) s ≡ recordAt records s .place
+place-in count records s low inside few = number-in 1 (omega arith) count records s _ low inside few refl
 
--- Of a sector that there is, it is the answer's.
-first-answer : (count : ℕ) (records : List Record) (s : ℕ) → s ≤ count
-    → getD (sectorNumbers count records s) 0 0 ≡ answerNumber (getD records (s - 1) unread .answer)
-unfolding sectorNumbers
-first-answer count records s h = rw (le-leb s count h)
-
--- The number in the list of a sector that there is.
-number-at : (count : ℕ) (records : List Record) (s : ℕ) → 1 ≤ s → s ≤ count → count ≤ mostSectors
-    → getD (recordList count records) ((s - 1) * recordWidth) 0 ≡ answerNumber (getD records (s - 1) unread .answer)
-number-at count records s low inside few = first-number count records s low (omega arith) ∙ first-answer count records s inside
+-- A read that gives 0 hands back what its track holds.
+pub accepted-read : (layout cylinder side : ℕ) (image : List ℕ) (given : ℕ) (area records counts : List ℕ)
+    → GivesRead layout cylinder side image given 0 area records counts
+    → readAnswer layout cylinder side image given ≡ reading (trackOf layout cylinder side) image
+unfolding readAnswer
+accepted-read layout cylinder side image given area records counts p =
+    let v = refusal (readTests layout cylinder side (length image) given) in
+    taken v (by-passed 0 refusalNumber none numbers-apart v 0 (p .numbered) refl) (reading (trackOf layout cylinder side) image) refusedReading
 
 pub refused-sectors-give-zeros : RefusedSectorsGiveZeros
-unfolding readAnswer
-refused-sectors-give-zeros layout cylinder side image given area answers counts s p named high =
-    let t = trackOf layout cylinder side in
-    let v = refusal (readTests layout cylinder side (length image) given) in
-    let accepted : v ≡ passed = by-passed 0 refusalNumber none numbers-apart v 0 (p .numbered) refl in
+refused-sectors-give-zeros layout cylinder side image given area records counts s p named high =
     let hands = readAnswer layout cylinder side image given in
-    let told : hands ≡ reading t image = taken v accepted (reading t image) refusedReading in
+    let told = accepted-read layout cylinder side image given area records counts p in
     let inside : s ≤ hands .sectors = rw told (named .1) in
     let few : hands .sectors ≤ mostSectors = rw told (modest layout .1) in
-    let same = ap (λ (xs : List ℕ). getD xs ((s - 1) * recordWidth) 0) (p .answered)
-    ∙ number-at (hands .sectors) (hands .records .list) s (named .0) inside few in
+    let same = ap (λ (xs : List ℕ). answerIn xs s) (p .recorded) ∙ answer-in (hands .sectors) (hands .records) s (named .0) inside few in
     refused-sectors-leave-zeros layout cylinder side image given hands area s (record { answers = refl; leaves = p .leaves })
     (ap (λ (r : Reading). r .verdict) told) named (omega (arith, same))
 
 pub gives-back-as-written : GivesBackAsWritten
 unfolding readAnswer
-gives-back-as-written layout cylinder side contents marks before image number area answers counts small formatted read =
+gives-back-as-written layout cylinder side contents marks before image number area records counts small formatted read =
     let t = trackOf layout cylinder side in
     let given = layoutOf layout .«area_bytes» in
     let v = refusal (formatTests layout cylinder side contents marks (length before)) in
@@ -200,9 +189,54 @@ gives-back-as-written layout cylinder side contents marks before image number ar
       accepted = read .numbered ∙ taken w accepted 0 refusalNumber;
       answered = λ s h.
           let inside : s ≤ hands .sectors = rw (back .counted) (h .1) in
-          ap (λ (xs : List ℕ). getD xs ((s - 1) * recordWidth) 0) (read .answered)
-          ∙ number-at (hands .sectors) (hands .records .list) s (h .0) inside (rw (back .counted) (few .1))
+          ap (λ (xs : List ℕ). answerIn xs s) (read .recorded)
+          ∙ answer-in (hands .sectors) (hands .records) s (h .0) inside (rw (back .counted) (few .1))
           ∙ back .answers s h;
+      places = λ s h.
+          let inside : s ≤ hands .sectors = rw (back .counted) (h .1) in
+          ap (λ (xs : List ℕ). placeIn xs s) (read .recorded)
+          ∙ place-in (hands .sectors) (hands .records) s (h .0) inside (rw (back .counted) (few .1))
+          ∙ back .places s h;
       slots = back .slots;
       counted = read .counted ∙ ap₂ (λ (a b : ℕ). a ∷ b ∷ []) (back .bad) (back .foreign);
     }
+
+-- ---- what a pick hands on
+
+pub refused-pick-gives-zeros : RefusedPickGivesZeros
+unfolding chosenOf by
+refused-pick-gives-zeros layout sector first ones second twos number taken handed f p e = (p .placed ∙ rw e, p .recorded ∙ rw e)
+
+-- The numbers of a record that `station_read` gave say that record, and no other.
+numbers-back : (layout cylinder side : ℕ) (image : List ℕ) (given : ℕ) (area records counts : List ℕ)
+    → GivesRead layout cylinder side image given 0 area records counts
+    → (s : ℕ) → 1 ≤ s → s ≤ layoutOf layout .sectors → recordNumbers (numberedAt records s) ≡ slotIn recordWidth s records
+unfolding sectorNumbers
+numbers-back layout cylinder side image given area records counts p s low high =
+    let answer = readAnswer layout cylinder side image given in
+    let few = modest layout .1 in
+    let inside : s ≤ answer .sectors = rw (accepted-read layout cylinder side image given area records counts p) high in
+    ap recordNumbers (read-back layout cylinder side image given 0 area records counts p s low (omega arith) inside)
+    ∙ sym (ap (slotIn recordWidth s) (p .recorded) ∙ listed-at (answer .sectors) (answer .records) s low (omega arith) ∙ rw (le-leb s (answer .sectors) inside))
+
+-- By which pass is taken, its record is handed on.
+choice-hands : (l : Layout) (sector : ℕ) (ones twos : List ℕ) (one two : Record) → recordNumbers one ≡ slotIn recordWidth sector ones
+    → recordNumbers two ≡ slotIn recordWidth sector twos → HandsOn sector ones twos (partOf l sector (choice one two)) (handedOn (choice one two))
+choice-hands l sector ones twos one two e f = go (carries (one .answer)) (carries (two .answer))
+  where
+    go : (x y : Bool)
+        → let p = cond x (pick.First one) (cond y (pick.Second two) (pick.Neither one)) in HandsOn sector ones twos (partOf l sector p) (handedOn p)
+    go true y = record { first = λ h. e; second = λ h. absurd (omega arith); neither = λ h. absurd (omega arith); only = inl refl }
+    go false true = record { first = λ h. absurd (omega arith); second = λ h. f; neither = λ h. absurd (omega arith); only = inr (inl refl) }
+    go false false = record { first = λ h. absurd (omega arith); second = λ h. absurd (omega arith); neither = λ h. e; only = inr (inr refl) }
+
+pub pick-hands-on : PickHandsOn
+unfolding chosenOf by
+pick-hands-on layout cylinder side sector image other first ones counts second twos sums number taken handed p q r passes =
+    let k = pickable layout sector (length first) (length second) passes in
+    let one = numberedAt ones sector in
+    let two = numberedAt twos sector in
+    let hands = choice-hands (layoutOf layout) sector ones twos one two
+    (numbers-back layout cylinder side image (length first) first ones counts p sector (k .low) (k .high))
+    (numbers-back layout cylinder side other (length second) second twos sums q sector (k .low) (k .high)) in
+    rw (r .placed, r .recorded, passes) hands

@@ -12,6 +12,8 @@ pub mod rewriting
 pub mod Doors
 -- demand 3 at the doors
 pub mod Calling
+-- where on the track
+pub mod Places
 -- the facts
 pub mod Facts
 -- each contract allows one outcome

@@ -242,20 +242,21 @@ all-four p q r s = rw (p, q, r, s)
 pub station-read : (layout cylinder side : ℕ) (image : List ℕ) (given : ℕ)
     → Unique (λ (o : ℕ × List ℕ × List ℕ × List ℕ). GivesRead layout cylinder side image given (o .0) (o .1) (o .2) (o .3))
 station-read layout cylinder side image given x y p q =
-    all-four (p .numbered ∙ sym (q .numbered)) (p .leaves ∙ sym (q .leaves)) (p .answered ∙ sym (q .answered)) (p .counted ∙ sym (q .counted))
+    all-four (p .numbered ∙ sym (q .numbered)) (p .leaves ∙ sym (q .leaves)) (p .recorded ∙ sym (q .recorded)) (p .counted ∙ sym (q .counted))
+
+-- A number and two areas at exit.
+all-three : {A B C : Type 0} {a a′ : A} {b b′ : B} {c c′ : C} → a ≡ a′ → b ≡ b′ → c ≡ c′ → _≡_ {A = A × B × C} (a, b, c) (a′, b′, c′)
+all-three p q r = rw (p, q, r)
 
 pub station-pick : (layout sector : ℕ) (first ones second twos : List ℕ)
-    → Unique (λ (o : ℕ × List ℕ). GivesPick layout sector first ones second twos (o .0) (o .1))
-station-pick layout sector first ones second twos x y p q = by-values _ _ x y (p .numbered, p .placed) (q .numbered, q .placed)
+    → Unique (λ (o : ℕ × List ℕ × List ℕ). GivesPick layout sector first ones second twos (o .0) (o .1) (o .2))
+station-pick layout sector first ones second twos x y p q =
+    all-three (p .numbered ∙ sym (q .numbered)) (p .placed ∙ sym (q .placed)) (p .recorded ∙ sym (q .recorded))
 
 pub station-request : (layout cylinder side sector mark : ℕ) (contents image : List ℕ)
     → Unique (λ (o : ℕ × List ℕ). GivesRequest layout cylinder side sector mark contents image (o .0) (o .1))
 station-request layout cylinder side sector mark contents image x y p q =
     by-values _ _ x y (p .numbered, p .notes) (q .numbered, q .notes)
-
--- A number, and the plan and the image at exit.
-all-three : {A B C : Type 0} {a a′ : A} {b b′ : B} {c c′ : C} → a ≡ a′ → b ≡ b′ → c ≡ c′ → _≡_ {A = A × B × C} (a, b, c) (a′, b′, c′)
-all-three p q r = rw (p, q, r)
 
 pub station-step : (before : List ℕ) (mark : ℕ) (contents image : List ℕ)
     → Unique (λ (o : ℕ × List ℕ × List ℕ). GivesStep before mark contents image (o .0) (o .1) (o .2))

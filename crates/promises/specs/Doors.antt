@@ -3,10 +3,11 @@
 use mathlib.Core.List.{List, [], _∷_}
 use mathlib.Core.Logic.{_⊎_}
 use mathlib.Core.Path.{_≡_}
-use Prim.Native.Nat.{ℕ, suc, _-_, _*_, _≤_}
+use Prim.Native.Nat.{ℕ, suc, _+_, _-_, _*_, _≤_}
 use lib.ListN.{length, getD, replicate}
 use Rattle.cells.specs.Cells.{Bytes}
 use Rattle.format.specs.Order.{Numbered}
+use Rattle.format.specs.Places.{blockPlace}
 use Rattle.format.specs.Refusals.{formatTests}
 use Rattle.layouts.specs.Layouts.{layoutOf, mostSectors, slotIn}
 use Rattle.calls.specs.Refusals.{refusalNumber}
@@ -19,7 +20,7 @@ use Rattle.request.specs.Refusals.{requestTests}
 use Rattle.rewrite.specs.Refusals.{stepTests}
 use Rattle.station.specs.Outcomes.{GivesFormat, GivesRead, GivesPick, GivesRequest, GivesStep, numberedPlan}
 use Rattle.station.specs.Records.{recordWidth}
-use Rattle.verdicts.specs.Tests.{Test, FirstOf}
+use Rattle.verdicts.specs.Tests.{Test, FirstOf, passed, refused, refusal}
 use Rattle.promises.specs.Refusing.{RefusedBy}
 use Rattle.promises.specs.Rewriting.{Fit, Ran, Survives}
 use Rattle.promises.specs.RoundTrip.{wentIn}
@@ -36,8 +37,8 @@ pub record DoorsRefuse : Type 0 where
   pub format : (layout cylinder side : ℕ) (contents marks before : List ℕ) (number : ℕ) (after : List ℕ)
       → GivesFormat layout cylinder side contents marks before number after
       → RefusedBy (formatTests layout cylinder side contents marks (length before)) number
-  pub read : (layout cylinder side : ℕ) (image : List ℕ) (given number : ℕ) (area answers counts : List ℕ)
-      → GivesRead layout cylinder side image given number area answers counts
+  pub read : (layout cylinder side : ℕ) (image : List ℕ) (given number : ℕ) (area records counts : List ℕ)
+      → GivesRead layout cylinder side image given number area records counts
       → RefusedBy (readTests layout cylinder side (length image) given) number
   pub request : (layout cylinder side sector mark : ℕ) (contents image : List ℕ) (number : ℕ) (plan : List ℕ)
       → GivesRequest layout cylinder side sector mark contents image number plan
@@ -46,8 +47,8 @@ pub record DoorsRefuse : Type 0 where
       → GivesStep before mark contents image number plan after
       → RefusedBy (stepTests (numberedPlan before) mark contents image) number
   -- and of the pick, whose answers 1 and 2 are numbers of refusals too: for each refusal that its list has.
-  pub pick : (layout sector : ℕ) (first ones second twos : List ℕ) (number : ℕ) (taken : List ℕ)
-      → GivesPick layout sector first ones second twos number taken
+  pub pick : (layout sector : ℕ) (first ones second twos : List ℕ) (number : ℕ) (taken handed : List ℕ)
+      → GivesPick layout sector first ones second twos number taken handed
       → (f : Refusal) → Listed f (pickTests layout sector (length first) (length second))
       → (number ≡ refusalNumber f → FirstOf (pickTests layout sector (length first) (length second)) f)
       × (FirstOf (pickTests layout sector (length first) (length second)) f → number ≡ refusalNumber f)
@@ -55,37 +56,70 @@ pub record DoorsRefuse : Type 0 where
 -- A refused read leaves zeros in all three areas.
 abbrev pub RefusedReadGivesZeros : Type 0
 RefusedReadGivesZeros =
-    (layout cylinder side : ℕ) (image : List ℕ) (given number : ℕ) (area answers counts : List ℕ)
-    → GivesRead layout cylinder side image given number area answers counts
+    (layout cylinder side : ℕ) (image : List ℕ) (given number : ℕ) (area records counts : List ℕ)
+    → GivesRead layout cylinder side image given number area records counts
     → (number ≡ 0 → ⊥)
-    → (area ≡ replicate given 0) × (answers ≡ replicate mostSectors 0) × (counts ≡ 0 ∷ 0 ∷ [])
+    → (area ≡ replicate given 0) × (records ≡ replicate (mostSectors * recordWidth) 0) × (counts ≡ 0 ∷ 0 ∷ [])
 
--- A refused sector's slot is all zero: where the first number of its record is 21 or above.
+-- The two numbers of a sector's record in the list: its answer's, and its place.
+abbrev pub answerIn : List ℕ → (s : ℕ) → ℕ
+answerIn records s = getD records ((s - 1) * recordWidth) 0
+
+abbrev pub placeIn : List ℕ → (s : ℕ) → ℕ
+placeIn records s = getD records ((s - 1) * recordWidth + 1) 0
+
+-- A refused sector's slot is all zero: where the number of its answer is 21 or above.
 abbrev pub RefusedSectorsGiveZeros : Type 0
 RefusedSectorsGiveZeros =
-    (layout cylinder side : ℕ) (image : List ℕ) (given : ℕ) (area answers counts : List ℕ) (s : ℕ)
-    → GivesRead layout cylinder side image given 0 area answers counts
+    (layout cylinder side : ℕ) (image : List ℕ) (given : ℕ) (area records counts : List ℕ) (s : ℕ)
+    → GivesRead layout cylinder side image given 0 area records counts
     → Numbered (layoutOf layout) s
-    → 21 ≤ getD answers ((s - 1) * recordWidth) 0
+    → 21 ≤ answerIn records s
     → slotIn (layoutOf layout .size) s area ≡ replicate (layoutOf layout .size) 0
+
+-- A refused pick takes nothing, and hands on no record (02, Req 01).
+abbrev pub RefusedPickGivesZeros : Type 0
+RefusedPickGivesZeros =
+    (layout sector : ℕ) (first ones second twos : List ℕ) (number : ℕ) (taken handed : List ℕ) (f : Refusal)
+    → GivesPick layout sector first ones second twos number taken handed
+    → refusal (pickTests layout sector (length first) (length second)) ≡ refused f
+    → (taken ≡ replicate 3 0) × (handed ≡ replicate recordWidth 0)
+
+-- Of two passes that `station_read` read, and a pick that is not refused: by which pass is taken, its record is handed on, and where none is the first
+-- pass's (02, Req 01).
+pub record HandsOn (sector : ℕ) (ones twos taken handed : List ℕ) : Type 0 where
+  pub first : getD taken 0 0 ≡ 1 → handed ≡ slotIn recordWidth sector ones
+  pub second : getD taken 0 0 ≡ 2 → handed ≡ slotIn recordWidth sector twos
+  pub neither : getD taken 0 0 ≡ 0 → handed ≡ slotIn recordWidth sector ones
+  pub only : (getD taken 0 0 ≡ 1) ⊎ ((getD taken 0 0 ≡ 2) ⊎ (getD taken 0 0 ≡ 0))
+
+abbrev pub PickHandsOn : Type 0
+PickHandsOn =
+    (layout cylinder side sector : ℕ) (image other first ones counts second twos sums : List ℕ) (number : ℕ) (taken handed : List ℕ)
+    → GivesRead layout cylinder side image (length first) 0 first ones counts
+    → GivesRead layout cylinder side other (length second) 0 second twos sums
+    → GivesPick layout sector first ones second twos number taken handed
+    → refusal (pickTests layout sector (length first) (length second)) ≡ passed
+    → HandsOn sector ones twos taken handed
 
 -- ---- demand 2
 
 -- What `station_read` gives of a track that was formatted with these data and marks.
-pub record GivesBack (t : Track) (contents marks : List ℕ) (number : ℕ) (area answers counts : List ℕ) : Type 0 where
+pub record GivesBack (t : Track) (contents marks : List ℕ) (number : ℕ) (area records counts : List ℕ) : Type 0 where
   pub accepted : number ≡ 0
-  pub answered : (s : ℕ) → Numbered (t .layout) s → getD answers ((s - 1) * recordWidth) 0 ≡ wentIn t contents marks s .number
+  pub answered : (s : ℕ) → Numbered (t .layout) s → answerIn records s ≡ wentIn t contents marks s .number
+  pub places : (s : ℕ) → Numbered (t .layout) s → placeIn records s ≡ 8 * blockPlace (t .layout) (s - 1)
   pub slots : (s : ℕ) → Numbered (t .layout) s → slotIn (t .layout .size) s area ≡ wentIn t contents marks s .bytes
   pub counted : counts ≡ 0 ∷ 0 ∷ []
 
 -- A track that `station_format` wrote, read through `station_read`, is the very sectors and marks that went in.
 abbrev pub GivesBackAsWritten : Type 0
 GivesBackAsWritten =
-    (layout cylinder side : ℕ) (contents marks before image : List ℕ) (number : ℕ) (area answers counts : List ℕ)
+    (layout cylinder side : ℕ) (contents marks before image : List ℕ) (number : ℕ) (area records counts : List ℕ)
     → Bytes contents
     → GivesFormat layout cylinder side contents marks before 0 image
-    → GivesRead layout cylinder side image (layoutOf layout .«area_bytes») number area answers counts
-    → GivesBack (trackOf layout cylinder side) contents marks number area answers counts
+    → GivesRead layout cylinder side image (layoutOf layout .«area_bytes») number area records counts
+    → GivesBack (trackOf layout cylinder side) contents marks number area records counts
 
 -- ---- demand 3
 

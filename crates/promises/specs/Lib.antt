@@ -10,6 +10,8 @@ pub mod Cuts
 pub mod Rewriting
 -- All three, of the exported functions.
 pub mod Doors
+-- Where on the track (02, Req 01).
+pub mod Places
 -- The facts that 01 marks P, and what a contract settles.
 pub mod Facts
 pub mod Unique

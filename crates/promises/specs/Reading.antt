@@ -10,9 +10,9 @@ use Rattle.calls.specs.declared.Checked.the-variants.{Passed, Refused}
 use Rattle.calls.specs.declared.Refusal.{Refusal}
 use Rattle.layouts.specs.declared.Track.{Track}
 use Rattle.format.specs.Order.{Numbered}
-use Rattle.answers.specs.Answers.{answerNumber, carries}
+use Rattle.answers.specs.Answers.{answerNumber, carries, recordAt}
 use Rattle.read.specs.Outcomes.{Reads}
-use Rattle.pick.specs.Picks.{IsPicked, IsStretch, recordAt}
+use Rattle.pick.specs.Picks.{IsPicked, IsStretch}
 use Rattle.read.specs.declared.Reading.{Reading}
 use Rattle.answers.specs.declared.Record.{Record}
 use Rattle.answers.specs.declared.Records.{Records}

@@ -95,14 +95,18 @@ withRecord reading sector x =
     record {
       verdict = reading .verdict;
       sectors = reading .sectors;
-      records = record { list = set (reading .records .list) (sector - 1) x };
+      records =
+          record {
+            answers = set (reading .records .answers) (sector - 1) (record { answer = x .answer });
+            places = set (reading .records .places) (sector - 1) (x .place);
+          };
       bad = reading .bad;
       foreign = reading .foreign;
     }
 
 -- A rewrite was cut after j stores, and left the image `now`.
 pub record Survives (layout cylinder side sector mark : ℕ) (contents image : List ℕ) (plan : Plan) (j : ℕ) (now : List ℕ) : Type 0 where
-  -- Every other sector reads as before, and both counts are as before.
+  -- Every other sector reads as before, its place included, and both counts are as before.
   pub others : (x : ℕ) → (x ≡ sector → ⊥) → sectorIn (trackOf layout cylinder side) now x ≡ sectorIn (trackOf layout cylinder side) image x
   pub bad : bads (met (trackOf layout cylinder side) now) ≡ bads (met (trackOf layout cylinder side) image)
   pub foreign : foreigns (met (trackOf layout cylinder side) now) ≡ foreigns (met (trackOf layout cylinder side) image)
@@ -112,6 +116,8 @@ pub record Survives (layout cylinder side sector mark : ℕ) (contents image : L
   pub opened : 0 < j → j < number layout image plan → ReadsSo (sectorIn (trackOf layout cylinder side) now sector) (underWay (layoutOf layout .size))
   pub written : j ≡ number layout image plan
       → ReadsSo (sectorIn (trackOf layout cylinder side) now sector) (readsBack cylinder mark contents)
+  -- Its mark is where it was, before, during and after (02, Req 01).
+  pub placed : sectorIn (trackOf layout cylinder side) now sector .known .place ≡ sectorIn (trackOf layout cylinder side) image sector .known .place
   -- In the words of `read`: it answers what it answers of the first image, but for this one record, and leaves the same, but for this one slot.
   pub reads : (before answer : Reading) (area after : List ℕ)
       → Reads layout cylinder side image (layoutOf layout .«area_bytes») before area

@@ -15,9 +15,8 @@ use Rattle.layouts.specs.Tracks.{trackOf}
 use Rattle.calls.specs.declared.Checked.the-variants.{Passed}
 use Rattle.layouts.specs.declared.Layout.{Layout}
 use Rattle.layouts.specs.declared.Track.{Track}
-use Rattle.answers.specs.Answers.{answerNumber}
+use Rattle.answers.specs.Answers.{answerNumber, recordAt}
 use Rattle.read.specs.Outcomes.{Reads}
-use Rattle.pick.specs.Picks.{recordAt}
 use Rattle.read.specs.declared.Reading.{Reading}
 use Rattle.walk.specs.Events.{bads, foreigns}
 use Rattle.walk.specs.Outcomes.{met}
@@ -43,6 +42,11 @@ unfoldable pub times : ℕ → List ℕ → ℕ
 times s [] = 0
 times s (x ∷ xs) = cond (eqb x s) (suc (times s xs)) (times s xs)
 
+-- Where s stands in a list: how many stand before it.
+unfoldable pub position : ℕ → List ℕ → ℕ
+position s [] = 0
+position s (x ∷ xs) = cond (eqb x s) 0 (suc (position s xs))
+
 -- Of the order of the sectors: it holds each sector number once, and nothing else.
 pub record Ordered (l : Layout) (order : List ℕ) : Type 0 where
   pub numbered : Every (Numbered l) order
@@ -60,23 +64,25 @@ abbrev pub wentIn : Track → (contents marks : List ℕ) → ℕ → Back
 wentIn t contents marks s = readsBack (t .cylinder) (getD marks (s - 1) 0) (slotIn (t .layout .size) s contents)
 
 -- Reading the image gives back the data and the marks: the sectors are met in their order and nothing else is, no identifier is bad or
--- foreign, and each sector reads as what went in (01, "How a track is read").
+-- foreign, each sector reads as what went in (01, "How a track is read"), and its place is that of its block on the track (02, Req 01).
 pub record ReadsBack (t : Track) (contents marks order image : List ℕ) : Type 0 where
   pub meets : met t image ≡ acceptedFrom (t .layout) 0 order
   pub bad : bads (met t image) ≡ 0
   pub foreign : foreigns (met t image) ≡ 0
   pub sectors : (s : ℕ) → Numbered (t .layout) s → ReadsSo (sectorIn t image s) (wentIn t contents marks s)
+  pub places : (s : ℕ) → Numbered (t .layout) s → sectorIn t image s .known .place ≡ 8 * blockPlace (t .layout) (position s order)
 
 -- ---- demand 2
 
 -- What `read` hands back of a formatted track: it is not refused, no identifier is bad or foreign, and of each sector the answer's number and
--- the slot in the area are those of what went in.
+-- the slot in the area are those of what went in. The order is the natural one, and so is each sector's place.
 pub record HandsBack (t : Track) (contents marks : List ℕ) (answer : Reading) (area : List ℕ) : Type 0 where
   pub accepted : answer .verdict ≡ Passed
   pub counted : answer .sectors ≡ t .layout .sectors
   pub bad : answer .bad ≡ 0
   pub foreign : answer .foreign ≡ 0
   pub answers : (s : ℕ) → Numbered (t .layout) s → answerNumber (recordAt (answer .records) s .answer) ≡ wentIn t contents marks s .number
+  pub places : (s : ℕ) → Numbered (t .layout) s → recordAt (answer .records) s .place ≡ 8 * blockPlace (t .layout) (s - 1)
   pub slots : (s : ℕ) → Numbered (t .layout) s → slotIn (t .layout .size) s area ≡ wentIn t contents marks s .bytes
   pub whole : length area ≡ t .layout .sectors * t .layout .size
 

@@ -1,56 +1,71 @@
 -- What a block answers, by its mark and its EDC, and what it leaves in the slot; what an identifier makes of its sector, and one more of them.
-use mathlib.Core.Path.{_≡_, refl, sym, ap, subst, _∙_}
+use mathlib.Core.Path.{_≡_, refl, sym, ap, ap₂, _∙_}
 use mathlib.Core.Bool.{Bool, true, false, cond}
 use mathlib.Core.List.{List}
-use Prim.Native.Nat.{ℕ, _+_}
+use mathlib.Core.Logic.{inl, inr}
+use Prim.Native.Nat.{ℕ, _+_, _≤_}
+use native.Mathlib.Omega.{arith}
 use lib.ListN.{replicate}
 use Rattle.cells.specs.Cells.{dataBytes}
 use Rattle.layouts.specs.declared.Track.{Track}
 use Rattle.marks.specs.Marks.{markCells, stands}
 use Rattle.marks.specs.declared.Mark.{Mark}
 use Rattle.marks.specs.declared.Mark.the-variants as marks
+use Rattle.marks.proofs.Spelling.{one-mark, is-false}
+use Rattle.verdicts.proofs.Tests.{clash}
 use Rattle.walk.specs.Walk.{edcRight}
+use Rattle.walk.specs.Turns.{BlockStands, Placed}
 use Rattle.walk.specs.declared.Block.{Block}
 use Rattle.walk.specs.declared.Block.the-variants.{Missing, Beyond, Within}
-use Rattle.read.specs.Records.{Sector, slotOf, answering, refused, proved, blockAnswer, blockBytes, identifierRecord}
-use Rattle.read.specs.Turns.{Gives, unmet, next}
+use Rattle.read.specs.Records.{Sector, slotOf, refused, proved, blockAnswer, blockBytes, identifierRecord}
+use Rattle.read.specs.Turns.{Leaves, Gives, placeOf, unmet, next}
+use Rattle.answers.specs.Answers.{noPlace}
 use Rattle.answers.specs.declared.Fault.{Fault}
 use Rattle.answers.specs.declared.Fault.the-variants.{Doubled, NoBlock, PastEnd, OpenMark, WrongEdc}
 use Rattle.answers.specs.declared.Answer.{Answer}
 use Rattle.answers.specs.declared.Answer.the-variants.{Data, Control, Refused}
-use Rattle.answers.specs.declared.Record.{Record}
 
--- What gives a sector gives whatever is the same.
-pub gives-same : {x y : Sector} {r : Record} {slot : List ℕ} → y ≡ x → Gives x r slot → Gives y r slot
-gives-same {x} {y} {r} {slot} e g = subst (λ (z : Sector). Gives z r slot) (sym e) g
+-- A refused answer with a slot of zeros is the refused sector's; k is the length of the slot that was lent.
+pub leaves-refused : {size place : ℕ} {sector : Sector} {r : Answer} {slot : List ℕ} (fault : Fault) (k : ℕ) → sector ≡ refused size fault place
+    → (r ≡ Refused fault) × (slot ≡ replicate k 0) → k ≡ size → Leaves sector r slot
+leaves-refused fault k e g h = rw e (g .0, g .1 ∙ ap (λ (j : ℕ). replicate j 0) h)
 
--- A refused record with a slot of zeros gives the refused sector; k is the length of the slot that was lent.
-pub gives-refused : {size : ℕ} {sector : Sector} {r : Record} {slot : List ℕ} (fault : Fault) (k : ℕ) → sector ≡ refused size fault
-    → (r ≡ record { answer = Refused fault }) × (slot ≡ replicate k 0) → k ≡ size → Gives sector r slot
-gives-refused fault k e g h = gives-same e (g .0, g .1 ∙ ap (λ (j : ℕ). replicate j 0) h)
+-- An answer that is a sector's, with its place, gives the sector.
+pub gives-placed : {x y : Sector} {r : Answer} {slot : List ℕ} (p : ℕ) → y ≡ x → Leaves x r slot → p ≡ x .known .place
+    → Gives y (record { answer = r; place = p }) slot
+gives-placed {x} p e g h = rw e (ap₂ (λ (a : Answer) (m : ℕ). record { answer = a; place = m }) (g .0) h, g .1)
 
 module _ (t : Track) (c : ℕ → ℕ) (n m : ℕ) where
-  -- ---- which mark stands, and so what decides
+  -- ---- which mark stands, and so what decides: no two do, and one of the three does
 
-  is-open : (o : Bool) → o ≡ stands (t .layout .mode) c n marks.Open m → o ≡ true → blockAnswer t c n m ≡ Refused OpenMark
-  unfolding blockAnswer
-  is-open o told h = rw (← told, h)
+  pub other-mark : (j k : Mark) → (j ≡ k → ⊥) → stands (t .layout .mode) c n j m ≡ true → stands (t .layout .mode) c n k m ≡ false
+  other-mark j k apart e = is-false (stands (t .layout .mode) c n k m) (λ f. apart (one-mark (t .layout .mode) c n m j k e f))
 
-  -- An open block is refused; k is the length of the slot.
-  pub block-open : {r : Record} {slot : List ℕ} (o : Bool) (k : ℕ) → o ≡ stands (t .layout .mode) c n marks.Open m → o ≡ true
-      → (r ≡ record { answer = Refused OpenMark }) × (slot ≡ replicate k 0) → k ≡ t .layout .size
-      → Gives (answering (t .layout .size) (blockAnswer t c n m) (blockBytes t c n m)) r slot
-  block-open o k told h g e =
-      gives-refused OpenMark k (ap (λ (a : Answer). answering (t .layout .size) a (blockBytes t c n m)) (is-open o told h)) g e
-
-  module _ (o k : Bool) (opened : o ≡ stands (t .layout .mode) c n marks.Open m) (shut : o ≡ false) (told : k ≡ stands (t .layout .mode) c n marks.Control m) where
-    pub is-control : k ≡ true → blockAnswer t c n m ≡ proved t c n marks.Control Control m
+  module _ (d : Bool) (told : d ≡ stands (t .layout .mode) c n marks.Data m) where
+    pub is-data : d ≡ true → blockAnswer t c n m ≡ proved t c n marks.Data Data m
     unfolding blockAnswer
-    is-control h = rw (← opened, shut, ← told, h)
+    is-data h =
+        let e : stands (t .layout .mode) c n marks.Data m ≡ true = sym told ∙ h in
+        rw (other-mark marks.Data marks.Open (λ q. clash cc) e, other-mark marks.Data marks.Control (λ q. clash cc) e)
 
-    pub is-data : k ≡ false → blockAnswer t c n m ≡ proved t c n marks.Data Data m
-    unfolding blockAnswer
-    is-data h = rw (← opened, shut, ← told, h)
+    module _ (k : Bool) (second : k ≡ stands (t .layout .mode) c n marks.Control m) where
+      pub is-control : k ≡ true → blockAnswer t c n m ≡ proved t c n marks.Control Control m
+      unfolding blockAnswer
+      is-control h =
+          let e : stands (t .layout .mode) c n marks.Control m ≡ true = sym second ∙ h in
+          rw (other-mark marks.Control marks.Open (λ q. clash cc) e, e)
+
+      is-open : d ≡ false → k ≡ false → BlockStands (t .layout .mode) c n m → blockAnswer t c n m ≡ Refused OpenMark
+      unfolding blockAnswer
+      is-open shut closed (inl e) = absurd (clash cc)
+      is-open shut closed (inr (inl e)) = absurd (clash cc)
+      is-open shut closed (inr (inr e)) = rw e
+
+      -- An open block is refused; j is the length of the slot.
+      pub block-open : {r : Answer} {slot : List ℕ} (j : ℕ) → d ≡ false → k ≡ false → BlockStands (t .layout .mode) c n m
+          → (r ≡ Refused OpenMark) × (slot ≡ replicate j 0) → j ≡ t .layout .size → Leaves (identifierRecord t c n (Within m)) r slot
+      unfolding identifierRecord
+      block-open j shut closed one g e = rw (is-open shut closed one) (g .0, g .1 ∙ ap (λ (i : ℕ). replicate i 0) e)
 
   -- ---- what the EDC decides: w is the cells of the mark, k the length of the slot
 
@@ -59,12 +74,12 @@ module _ (t : Track) (c : ℕ → ℕ) (n m : ℕ) where
   decided size true good bytes e = sym e
   decided size false good bytes e = refl
 
-  pub block-decided : {r : Record} {slot : List ℕ} (mark : Mark) (good : Answer) (w k : ℕ) → w ≡ markCells (t .layout .mode) → k ≡ t .layout .size
+  pub block-decided : {r : Answer} {slot : List ℕ} (mark : Mark) (good : Answer) (w k : ℕ) → w ≡ markCells (t .layout .mode) → k ≡ t .layout .size
       → blockAnswer t c n m ≡ proved t c n mark good m → ((size : ℕ) (bytes : List ℕ) → slotOf size good bytes ≡ bytes)
-      → (r ≡ record { answer = cond (edcRight (t .layout .mode) c mark (m + w) (k + 2)) good (Refused WrongEdc) })
+      → (r ≡ cond (edcRight (t .layout .mode) c mark (m + w) (k + 2)) good (Refused WrongEdc))
       × (slot ≡ cond (edcRight (t .layout .mode) c mark (m + w) (k + 2)) (dataBytes c (m + w) k) (replicate k 0))
-      → Gives (answering (t .layout .size) (blockAnswer t c n m) (blockBytes t c n m)) r slot
-  unfolding proved blockBytes
+      → Leaves (identifierRecord t c n (Within m)) r slot
+  unfolding identifierRecord proved blockBytes
   block-decided mark good w k u h e full g =
       let right = edcRight (t .layout .mode) c mark (m + w) (k + 2) in
       rw (e, ← u, ← h) (g .0, g .1 ∙ decided k right good (dataBytes c (m + w) k) (full k _))
@@ -72,23 +87,42 @@ module _ (t : Track) (c : ℕ → ℕ) (n m : ℕ) where
 -- ---- an identifier, and one more
 
 module _ (t : Track) (c : ℕ → ℕ) (n : ℕ) (block : Block) where
-  pub is-missing : block ≡ Missing → identifierRecord t c n block ≡ refused (t .layout .size) NoBlock
+  pub is-missing : block ≡ Missing → identifierRecord t c n block ≡ refused (t .layout .size) NoBlock noPlace
   unfolding identifierRecord
   is-missing e = rw e
 
-  pub is-beyond : (m : ℕ) → block ≡ Beyond m → identifierRecord t c n block ≡ refused (t .layout .size) PastEnd
+  pub is-beyond : (m : ℕ) → block ≡ Beyond m → identifierRecord t c n block ≡ refused (t .layout .size) PastEnd m
   unfolding identifierRecord
   is-beyond m e = rw e
 
-  pub is-within : (m : ℕ) → block ≡ Within m → identifierRecord t c n block ≡ answering (t .layout .size) (blockAnswer t c n m) (blockBytes t c n m)
-  unfolding identifierRecord
-  is-within m e = rw e
+  pub is-within : {r : Answer} {slot : List ℕ} (m : ℕ) → block ≡ Within m → Leaves (identifierRecord t c n (Within m)) r slot
+      → Leaves (identifierRecord t c n block) r slot
+  is-within m e g = rw e g
 
-  module _ (before : Record) (new : Bool) (told : new ≡ unmet (before .answer)) where
+  -- It fits 32 bits,
+  pub place-small : Placed (t .layout .mode) c n block → placeOf block ≤ 4294967295
+  place-small = go block
+    where
+      go : (b : Block) → Placed (t .layout .mode) c n b → placeOf b ≤ 4294967295
+      go Missing h = omega arith
+      go (Beyond m) h = omega arith
+      go (Within m) h = omega (arith, h .0)
+
+  -- and is that of the block's mark.
+  pub is-placed : identifierRecord t c n block .known .place ≡ placeOf block
+  unfolding identifierRecord
+  is-placed = go block
+    where
+      go : (b : Block) → identifierRecord t c n b .known .place ≡ placeOf b
+      go Missing = refl
+      go (Beyond m) = refl
+      go (Within m) = refl
+
+  module _ (before : Answer) (new : Bool) (told : new ≡ unmet before) where
     pub is-first : new ≡ true → next t c n before block ≡ identifierRecord t c n block
     unfolding next
     is-first h = rw (← told, h)
 
-    pub is-more : new ≡ false → next t c n before block ≡ refused (t .layout .size) Doubled
+    pub is-more : new ≡ false → next t c n before block ≡ refused (t .layout .size) Doubled noPlace
     unfolding next
     is-more h = rw (← told, h)

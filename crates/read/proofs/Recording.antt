@@ -19,10 +19,10 @@ use Rattle.walk.specs.declared.Block.the-variants.{Missing, Beyond, Within}
 use Rattle.walk.specs.declared.Event.{Event}
 use Rattle.read.specs.Records.{slotOf, refused, proved, blockAnswer, blockBytes, identifierRecord, recordFor, sectorOf}
 use Rattle.read.specs.Turns.{unmet, next}
+use Rattle.answers.specs.Answers.{noPlace}
 use Rattle.answers.specs.declared.Fault.the-variants.{NoIdentifier, Doubled, OpenMark, WrongEdc}
 use Rattle.answers.specs.declared.Answer.{Answer}
 use Rattle.answers.specs.declared.Answer.the-variants.{Data, Control, Refused}
-use Rattle.answers.specs.declared.Record.{Record}
 
 module _ (t : Track) (c : ℕ → ℕ) (n : ℕ) where
   -- ---- one block more
@@ -43,7 +43,7 @@ module _ (t : Track) (c : ℕ → ℕ) (n : ℕ) where
       by false false x true = refl
       by false false x false = refl
 
-  pub record-next : (bs : List Block) (b : Block) → recordFor t c n (bs ++ b ∷ []) ≡ next t c n (recordFor t c n bs .known) b
+  pub record-next : (bs : List Block) (b : Block) → recordFor t c n (bs ++ b ∷ []) ≡ next t c n (recordFor t c n bs .known .answer) b
   unfolding recordFor next
   record-next [] b = refl
   record-next (x ∷ []) b = rw (met x)
@@ -73,20 +73,20 @@ module _ (t : Track) (c : ℕ → ℕ) (n : ℕ) where
   unfolding sectorOf
   length-sector es s = by (leb s (t .layout .sectors))
     where
-      by : (b : Bool) → length (cond b (recordFor t c n (blocks s es)) (refused (t .layout .size) NoIdentifier) .slot) ≡ t .layout .size
+      by : (b : Bool) → length (cond b (recordFor t c n (blocks s es)) (refused (t .layout .size) NoIdentifier noPlace) .slot) ≡ t .layout .size
       by true = length-slot (blocks s es)
       by false = length-replicate (t .layout .size) 0
 
-  length-next : (before : Record) (b : Block) → length (next t c n before b .slot) ≡ t .layout .size
+  length-next : (before : Answer) (b : Block) → length (next t c n before b .slot) ≡ t .layout .size
   unfolding next
-  length-next before b = by (unmet (before .answer))
+  length-next before b = by (unmet before)
     where
-      by : (new : Bool) → length (cond new (identifierRecord t c n b) (refused (t .layout .size) Doubled) .slot) ≡ t .layout .size
+      by : (new : Bool) → length (cond new (identifierRecord t c n b) (refused (t .layout .size) Doubled noPlace) .slot) ≡ t .layout .size
       by true = identifier-slot b
       by false = length-replicate (t .layout .size) 0
 
   -- The slot that was lent comes back into the area.
-  pub slot-put : (area part : List ℕ) (start : ℕ) (before : Record) (b : Block) → part ≡ next t c n before b .slot
+  pub slot-put : (area part : List ℕ) (start : ℕ) (before : Answer) (b : Block) → part ≡ next t c n before b .slot
       → start + t .layout .size ≤ length area
       → putMid start (start + t .layout .size - start) area part ≡ sets area start (next t c n before b .slot)
   slot-put area part start before b e h =

@@ -28,7 +28,7 @@ reading t image =
     record {
       verdict = checked.Passed;
       sectors = t .layout .sectors;
-      records = record { list = recordsOf t (cell image) (8 * length image) (met t image) };
+      records = recordsOf t (cell image) (8 * length image) (met t image);
       bad = bads (met t image);
       foreign = foreigns (met t image);
     }

@@ -16,16 +16,26 @@ use Rattle.walk.specs.Events.{blocks}
 use Rattle.walk.specs.declared.Block.{Block}
 use Rattle.walk.specs.declared.Block.the-variants.{Missing, Beyond, Within}
 use Rattle.walk.specs.declared.Event.{Event}
+use Rattle.answers.specs.Answers.{noPlace}
 use Rattle.answers.specs.declared.Fault.{Fault}
 use Rattle.answers.specs.declared.Fault.the-variants.{NoIdentifier, Doubled, NoBlock, PastEnd, OpenMark, WrongEdc}
 use Rattle.answers.specs.declared.Answer.{Answer}
 use Rattle.answers.specs.declared.Answer.the-variants.{Data, Control, Refused}
+use Rattle.answers.specs.declared.Answered.{Answered}
 use Rattle.answers.specs.declared.Record.{Record}
+use Rattle.answers.specs.declared.Records.{Records}
 
 -- What is known of a sector: its record, and what its slot holds.
 pub record Sector : Type 0 where
   pub known : Record
   pub slot : List ℕ
+
+-- Its answer, and its place.
+abbrev pub itsAnswer : Sector → Answered
+itsAnswer x = record { answer = x .known .answer }
+
+abbrev pub itsPlace : Sector → ℕ
+itsPlace x = x .known .place
 
 -- What each of these sectors has, one behind the other.
 unfoldable pub slots : (ℕ → List ℕ) → List ℕ → List ℕ
@@ -39,13 +49,13 @@ module _ (size : ℕ) where
   slotOf Data bytes = bytes
   slotOf Control bytes = bytes
 
-  -- The sector with an answer, of a block with these bytes.
-  abbrev pub answering : Answer → List ℕ → Sector
-  answering answer bytes = record { known = record { answer = answer }; slot = slotOf answer bytes }
+  -- The sector with an answer and a place, of a block with these bytes.
+  abbrev pub answering : Answer → (place : ℕ) → List ℕ → Sector
+  answering answer place bytes = record { known = record { answer = answer; place = place }; slot = slotOf answer bytes }
 
-  -- The sector that is refused with a fault. It has no bytes.
-  abbrev pub refused : Fault → Sector
-  refused fault = answering (Refused fault) []
+  -- The sector that is refused with a fault, and has this place. It has no bytes.
+  abbrev pub refused : Fault → (place : ℕ) → Sector
+  refused fault place = answering (Refused fault) place []
 
 module _ (t : Track) (c : ℕ → ℕ) (n : ℕ) where
   -- What the block at m answers after a data or a control mark: its answer if the EDC is right.
@@ -62,25 +72,29 @@ module _ (t : Track) (c : ℕ → ℕ) (n : ℕ) where
   unfoldable pub blockBytes : ℕ → List ℕ
   blockBytes m = dataBytes c (m + markCells (t .layout .mode)) (t .layout .size)
 
-  -- What one accepted identifier makes of its sector.
+  -- What one accepted identifier makes of its sector. The place is the cell at which the block's mark begins (02, Req 01).
   unfoldable pub identifierRecord : Block → Sector
-  identifierRecord Missing = refused (t .layout .size) NoBlock
-  identifierRecord (Beyond m) = refused (t .layout .size) PastEnd
-  identifierRecord (Within m) = answering (t .layout .size) (blockAnswer m) (blockBytes m)
+  identifierRecord Missing = refused (t .layout .size) NoBlock noPlace
+  identifierRecord (Beyond m) = refused (t .layout .size) PastEnd m
+  identifierRecord (Within m) = answering (t .layout .size) (blockAnswer m) m (blockBytes m)
 
-  -- What a sector is, by what its accepted identifiers gave.
+  -- What a sector is, by what its accepted identifiers gave. Without one, and with more than one, it has no place (02, Req 01).
   unfoldable pub recordFor : List Block → Sector
-  recordFor [] = refused (t .layout .size) NoIdentifier
+  recordFor [] = refused (t .layout .size) NoIdentifier noPlace
   recordFor (b ∷ []) = identifierRecord b
-  recordFor (b ∷ x ∷ bs) = refused (t .layout .size) Doubled
+  recordFor (b ∷ x ∷ bs) = refused (t .layout .size) Doubled noPlace
 
   -- Sector s, by what the walk met. One past the layout's count is not there: it is refused with 21.
   unfoldable pub sectorOf : List Event → ℕ → Sector
-  sectorOf es s = cond (leb s (t .layout .sectors)) (recordFor (blocks s es)) (refused (t .layout .size) NoIdentifier)
+  sectorOf es s = cond (leb s (t .layout .sectors)) (recordFor (blocks s es)) (refused (t .layout .size) NoIdentifier noPlace)
 
-  -- The records, by sector number.
-  unfoldable pub recordsOf : List Event → List Record
-  recordsOf es = map (λ s. sectorOf es s .known) (numbers mostSectors 1)
+  -- What is said of each sector, by sector number.
+  unfoldable pub bySector : {A : Type 0} → (Sector → A) → List Event → List A
+  bySector f es = map (λ s. f (sectorOf es s)) (numbers mostSectors 1)
+
+  -- The records, by sector number: what each sector answers, and its place.
+  abbrev pub recordsOf : List Event → Records
+  recordsOf es = record { answers = bySector itsAnswer es; places = bySector itsPlace es }
 
   -- The area that is lent to the read: the slots of the sectors, one behind the other.
   unfoldable pub areaOf : List Event → List ℕ

@@ -4,33 +4,56 @@ use mathlib.Core.Bool.{Bool, true, false, cond}
 use mathlib.Core.List.{List, _++_}
 use mathlib.Core.Path.{_≡_}
 use Prim.Native.Nat.{ℕ, _+_, _-_, _*_, _≤_}
-use lib.ListN.{replicate}
+use lib.ListN.{length, replicate}
 use lib.Seq.{sets}
-use Rattle.cells.specs.Cells.{dataBytes}
+use Rattle.cells.specs.Cells.{cell, dataBytes}
 use Rattle.cells.specs.declared.Mode.{Mode}
 use Rattle.edc.specs.Register.{edcOf}
 use Rattle.layouts.specs.Layouts.{mostSectors}
 use Rattle.layouts.specs.declared.Layout.{Layout}
 use Rattle.layouts.specs.declared.Track.{Track}
 use Rattle.marks.specs.Marks.{covered}
+use Rattle.marks.specs.Outcomes.{Housed}
 use Rattle.marks.specs.declared.Mark.{Mark}
 use Rattle.walk.specs.Walk.{edcRight}
-use Rattle.read.specs.Records.{Sector, answering, refused, blockAnswer, blockBytes, identifierRecord}
+use Rattle.walk.specs.Turns.{Placed}
+use Rattle.read.specs.Records.{Sector, refused, identifierRecord}
+use Rattle.answers.specs.Answers.{noPlace}
 use Rattle.answers.specs.declared.Fault.the-variants.{NoIdentifier, Doubled, NoBlock, PastEnd, OpenMark, WrongEdc}
 use Rattle.answers.specs.declared.Answer.{Answer}
 use Rattle.answers.specs.declared.Answer.the-variants.{Data, Control, Refused}
 use Rattle.answers.specs.declared.Record.{Record}
 use Rattle.walk.specs.declared.Block.{Block}
+use Rattle.walk.specs.declared.Block.the-variants.{Missing, Beyond, Within}
 
 -- The layout's numbers are small enough for sums of cells. Those of every layout are.
 abbrev pub Modest : Layout → Type 0
 Modest l = (l .size ≤ 65536) × (l .sectors ≤ mostSectors)
 
--- A function that is lent a slot answers the record and leaves the bytes of this sector.
+-- What a function is lent that reads a block: an image of the house bound, a layout of small numbers, a block so placed, and a slot for it.
+abbrev pub Lent : Track → (image : List ℕ) → Block → (slot : List ℕ) → Type 0
+Lent t image block slot =
+    Housed image × Modest (t .layout) × (length slot ≡ t .layout .size) × Placed (t .layout .mode) (cell image) (8 * length image) block
+
+-- The same with the area of all sectors, for the block of a sector that there is.
+abbrev pub LentAll : Track → (image : List ℕ) → (sector : ℕ) → Block → (area : List ℕ) → Type 0
+LentAll t image sector block area =
+    Housed image
+    × Modest (t .layout)
+    × (1 ≤ sector)
+    × (sector ≤ t .layout .sectors)
+    × Placed (t .layout .mode) (cell image) (8 * length image) block
+    × (length area ≡ t .layout .sectors * t .layout .size)
+
+-- A function that is lent a slot gives the answer of this sector, and leaves its bytes.
+abbrev pub Leaves : Sector → Answer → (after : List ℕ) → Type 0
+Leaves sector answer after = (answer ≡ sector .known .answer) × (after ≡ sector .slot)
+
+-- The same of a function that gives the whole record.
 abbrev pub Gives : Sector → Record → List ℕ → Type 0
 Gives sector answer after = (answer ≡ sector .known) × (after ≡ sector .slot)
 
--- The same of a function that is lent the whole area: the sector is the one with this number.
+-- And of one that is lent the whole area: the sector is the one with this number.
 abbrev pub Enters : Sector → (size number : ℕ) → (before : List ℕ) → Record → (after : List ℕ) → Type 0
 Enters sector size number before answer after = (answer ≡ sector .known) × (after ≡ sets before ((number - 1) * size) (sector .slot))
 
@@ -40,14 +63,16 @@ module _ (mode : Mode) (mark : Mark) where
   Decodes c p k register after = (after ≡ dataBytes c p k) × (register ≡ edcOf (covered mode mark ++ dataBytes c p (k + 2)))
 
   -- If the EDC of the k bytes at p is right, this is the answer and the slot holds them; else the EDC is wrong, and it holds zeros.
-  abbrev pub Checks : Answer → (ℕ → ℕ) → (p k : ℕ) → Record → (after : List ℕ) → Type 0
+  abbrev pub Checks : Answer → (ℕ → ℕ) → (p k : ℕ) → Answer → (after : List ℕ) → Type 0
   Checks good c p k answer after =
-      (answer ≡ record { answer = cond (edcRight mode c mark p (k + 2)) good (Refused WrongEdc) })
+      (answer ≡ cond (edcRight mode c mark p (k + 2)) good (Refused WrongEdc))
       × (after ≡ cond (edcRight mode c mark p (k + 2)) (dataBytes c p k) (replicate k 0))
 
--- The sector whose only accepted identifier gave the block at m.
-abbrev pub blockSector : (t : Track) → (c : ℕ → ℕ) → (n m : ℕ) → Sector
-blockSector t c n m = answering (t .layout .size) (blockAnswer t c n m) (blockBytes t c n m)
+-- The place that a block gives its sector.
+abbrev pub placeOf : Block → ℕ
+placeOf Missing = noPlace
+placeOf (Beyond m) = m
+placeOf (Within m) = m
 
 -- No identifier of the sector has been accepted.
 abbrev pub unmet : Answer → Bool
@@ -60,6 +85,6 @@ unmet (Refused PastEnd) = false
 unmet (Refused OpenMark) = false
 unmet (Refused WrongEdc) = false
 
--- The first identifier's block decides; with a second one the sector is doubled.
-unfoldable pub next : (t : Track) → (c : ℕ → ℕ) → (n : ℕ) → Record → Block → Sector
-next t c n before b = cond (unmet (before .answer)) (identifierRecord t c n b) (refused (t .layout .size) Doubled)
+-- The first identifier's block decides; with a second one the sector is doubled. What counts of the record before is the answer.
+unfoldable pub next : (t : Track) → (c : ℕ → ℕ) → (n : ℕ) → (before : Answer) → Block → Sector
+next t c n before b = cond (unmet before) (identifierRecord t c n b) (refused (t .layout .size) Doubled noPlace)

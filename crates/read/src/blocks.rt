@@ -1,7 +1,8 @@
 // A sector's block: its bytes go into the slot as they are decoded, and into the register with them. Each function here is lent the sector's
-// slot, and answers the record that goes with what it leaves there.
+// slot, and gives the answer, or the whole record, that goes with what it leaves there.
 use answers::Answer;
 use answers::Fault;
+use answers::NO_PLACE;
 use answers::Record;
 use cells::Mode;
 use layouts::Track;
@@ -11,10 +12,9 @@ ghost use mathlib.Core.Path.{_≡_};
 ghost use Prim.Native.Nat.{_+_, _*_, _≤_};
 ghost use lib.ListN.{length, replicate};
 ghost use Rattle.cells.specs.Cells.{cell};
-ghost use Rattle.marks.specs.Outcomes.{Housed};
-ghost use Rattle.walk.specs.Turns.{Placed};
+ghost use Rattle.walk.specs.declared.Block.the-variants.{Within};
 ghost use Rattle.read.specs.Records.{identifierRecord};
-ghost use Rattle.read.specs.Turns.{Modest, Gives, Decodes, Checks, blockSector, unmet, next};
+ghost use Rattle.read.specs.Turns.{Lent, Leaves, Gives, Decodes, Checks, placeOf, unmet, next};
 ghost use Rattle.answers.specs.declared.Answer.the-variants.{Refused};
 
 // What decoding a block says besides its bytes: the register once the mark, the bytes and the two behind them have entered it.
@@ -37,13 +37,11 @@ fn decode(mode: Mode, mark: Mark, image: &[u8], place: usize, slot: &mut [u8]) -
 }
 
 // A refused sector: its slot is all zero.
-fn refused(fault: Fault, slot: &mut [u8]) -> Record
-    ensures { λ r. ⌜ (r ≡ record { answer = Refused fault }) × (now (slot .exit) ≡ replicate (length (now (slot .entry))) 0) ⌝ }
+fn refused(fault: Fault, slot: &mut [u8]) -> Answer
+    ensures { λ r. ⌜ (r ≡ Refused fault) × (now (slot .exit) ≡ replicate (length (now (slot .entry))) 0) ⌝ }
 {
     cells::clear(slot);
-    Record {
-        answer: Answer::Refused(fault),
-    }
+    Answer::Refused(fault)
 }
 
 // The block whose bytes begin at `place`, after a data or a control mark: `good` if its EDC is right. Else its bytes are taken back.
@@ -54,7 +52,7 @@ fn checked(
     image: &[u8],
     place: usize,
     slot: &mut [u8],
-) -> Record
+) -> Answer
     requires { ⌜ place + 16 * length (now slot) ≤ 4294967296 ⌝ }
     ensures { λ r. ⌜ Checks mode mark good (cell (now (image .entry))) place (length (now (slot .entry))) r (now (slot .exit)) ⌝ }
 {
@@ -62,35 +60,48 @@ fn checked(
     if decoded.register != 0 {
         return refused(Fault::WrongEdc, slot);
     }
-    Record { answer: good }
+    good
 }
 
-// The block whose mark begins at `place`, by itself.
-fn block_record(track: Track, image: &[u8], place: usize, slot: &mut [u8]) -> Record
-    requires { ⌜ Housed (now image) × Modest (track .layout) × (length (now slot) ≡ track .layout .size) × (place ≤ 2147483648) ⌝ }
-    ensures { λ r. ⌜ Gives (blockSector track (cell (now (image .entry))) (8 * length (now (image .entry))) place) r (now (slot .exit)) ⌝ }
+// What the block answers whose mark stands at `place`, by itself.
+fn block_answer(track: Track, image: &[u8], place: usize, slot: &mut [u8]) -> Answer
+    requires { ⌜ Lent track (now image) (Within place) (now slot) ⌝ }
+    ensures { λ r. ⌜ Leaves (identifierRecord track (cell (now (image .entry))) (8 * length (now (image .entry))) (Within place)) r (now (slot .exit)) ⌝ }
 {
     let layout = track.layout;
     let mode = layout.mode;
-    if marks::stands(mode, Mark::Open, image, place) {
-        return refused(Fault::OpenMark, slot);
-    }
     let bytes = place + 16 * marks::mark_bytes(mode);
+    // the data mark first, since most blocks have it; a claimed block without data or control mark has an open one
+    if marks::stands(mode, Mark::Data, image, place) {
+        return checked(mode, Mark::Data, Answer::Data, image, bytes, slot);
+    }
     if marks::stands(mode, Mark::Control, image, place) {
         return checked(mode, Mark::Control, Answer::Control, image, bytes, slot);
     }
-    checked(mode, Mark::Data, Answer::Data, image, bytes, slot)
+    refused(Fault::OpenMark, slot)
 }
 
-// What an accepted identifier makes of its sector, where it is the first.
-fn identifier_record(track: Track, image: &[u8], block: Block, slot: &mut [u8]) -> Record
-    requires { ⌜ Housed (now image) × Modest (track .layout) × (length (now slot) ≡ track .layout .size) × Placed block ⌝ }
-    ensures { λ r. ⌜ Gives (identifierRecord track (cell (now (image .entry))) (8 * length (now (image .entry))) block) r (now (slot .exit)) ⌝ }
+// What an accepted identifier answers for its sector, where it is the first.
+fn identifier_answer(track: Track, image: &[u8], block: Block, slot: &mut [u8]) -> Answer
+    requires { ⌜ Lent track (now image) block (now slot) ⌝ }
+    ensures { λ r. ⌜ Leaves (identifierRecord track (cell (now (image .entry))) (8 * length (now (image .entry))) block) r (now (slot .exit)) ⌝ }
 {
     match block {
         Block::Missing => refused(Fault::NoBlock, slot),
         Block::Beyond(_) => refused(Fault::PastEnd, slot),
-        Block::Within(place) => block_record(track, image, place, slot),
+        Block::Within(place) => block_answer(track, image, place, slot),
+    }
+}
+
+// The place that a block gives its sector.
+fn place_of(block: Block) -> u32
+    requires { ⌜ placeOf block ≤ 4294967295 ⌝ }
+    ensures { λ r. ⌜ r ≡ placeOf block ⌝ }
+{
+    match block {
+        Block::Missing => NO_PLACE,
+        Block::Beyond(place) => place as u32,
+        Block::Within(place) => place as u32,
     }
 }
 
@@ -112,20 +123,25 @@ fn is_unmet(answer: Answer) -> bool
     }
 }
 
-// What a sector is that had the record `before`, once one more of its identifiers was accepted.
+// What a sector is that answered `before`, once one more of its identifiers was accepted.
 pub(crate) fn next_record(
     track: Track,
     image: &[u8],
-    before: Record,
+    before: Answer,
     block: Block,
     slot: &mut [u8],
 ) -> Record
-    requires { ⌜ Housed (now image) × Modest (track .layout) × (length (now slot) ≡ track .layout .size) × Placed block ⌝ }
+    requires { ⌜ Lent track (now image) block (now slot) ⌝ }
     ensures { λ r. ⌜ Gives (next track (cell (now (image .entry))) (8 * length (now (image .entry))) before block) r (now (slot .exit)) ⌝ }
 {
-    let answer = before.answer;
-    if is_unmet(answer) {
-        return identifier_record(track, image, block, slot);
+    if is_unmet(before) {
+        return Record {
+            answer: identifier_answer(track, image, block, slot),
+            place: place_of(block),
+        };
     }
-    refused(Fault::Doubled, slot)
+    Record {
+        answer: refused(Fault::Doubled, slot),
+        place: NO_PLACE,
+    }
 }

@@ -21,7 +21,7 @@ use Rattle.rewrite.specs.declared.Stepped.the-variants as step
 use Rattle.request.specs.declared.Requested.{Requested}
 use Rattle.request.specs.declared.Requested.the-variants as request
 use Rattle.verdicts.specs.Tests.{Verdict, refusal, by}
-use Rattle.station.specs.Picks.{numberedChoice, pickNumber, partOf}
+use Rattle.station.specs.Picks.{numberedChoice, pickNumber, handedOn, partOf}
 use Rattle.station.specs.Records.{recordList}
 
 -- `station_edc` answers the EDC of the bytes.
@@ -47,18 +47,20 @@ pub record GivesFormat (layout cylinder side : ℕ) (contents marks before : Lis
   pub leaves : after ≡ formatImage layout cylinder side contents marks before
 
 -- `station_read` gives the verdict's number, the records by sector in numbers, the two counts, and what the read leaves in the area.
-pub record GivesRead (layout cylinder side : ℕ) (image : List ℕ) (given number : ℕ) (area answers counts : List ℕ) : Type 0 where
+pub record GivesRead (layout cylinder side : ℕ) (image : List ℕ) (given number : ℕ) (area records counts : List ℕ) : Type 0 where
   pub numbered : number ≡ verdictNumber (refusal (readTests layout cylinder side (length image) given))
   pub leaves : area ≡ readArea layout cylinder side image given
-  pub answered :
-      answers ≡ recordList (readAnswer layout cylinder side image given .sectors) (readAnswer layout cylinder side image given .records .list)
+  pub recorded :
+      records ≡ recordList (readAnswer layout cylinder side image given .sectors) (readAnswer layout cylinder side image given .records)
   pub counted :
       counts ≡ readAnswer layout cylinder side image given .bad ∷ readAnswer layout cylinder side image given .foreign ∷ []
 
--- `station_pick` gives the number of what is picked from two passes, by the numbers of their records, and where its bytes are.
-pub record GivesPick (layout sector : ℕ) (first ones second twos : List ℕ) (number : ℕ) (taken : List ℕ) : Type 0 where
+-- `station_pick` gives the number of what is picked from two passes, by the numbers of their records, where its bytes are, and the record that is
+-- handed on.
+pub record GivesPick (layout sector : ℕ) (first ones second twos : List ℕ) (number : ℕ) (taken handed : List ℕ) : Type 0 where
   pub numbered : number ≡ pickNumber (numberedChoice layout sector first ones second twos)
   pub placed : taken ≡ partOf (layoutOf layout) sector (numberedChoice layout sector first ones second twos)
+  pub recorded : handed ≡ handedOn (numberedChoice layout sector first ones second twos)
 
 -- A plan in four numbers: its layout, the cell at which the block's mark begins, the stores made, and the stores in all in an image of so many
 -- bytes.

@@ -1,4 +1,4 @@
--- A pick in numbers: the number of what is picked, and where its bytes are. What is picked is said in `read`.
+-- A pick in numbers: the number of what is picked, its record, and where its bytes are. What is picked is said in `pick`.
 use mathlib.Core.List.{List, [], _∷_}
 use Prim.Native.Nat.{ℕ, _-_, _*_, _≤_}
 use lib.ListN.{length, replicate}
@@ -9,7 +9,7 @@ use Rattle.answers.specs.Answers.{answerNumber}
 use Rattle.pick.specs.Picks.{chosenOf}
 use Rattle.pick.specs.declared.Choice.{Choice}
 use Rattle.pick.specs.declared.Choice.the-variants.{First, Second, Neither, Refused}
-use Rattle.station.specs.Records.{numberedAt}
+use Rattle.station.specs.Records.{recordWidth, recordNumbers, numberedAt}
 
 -- What is picked of two passes, by their areas and the numbers of their records.
 abbrev pub numberedChoice : (layout sector : ℕ) → (first ones second twos : List ℕ) → Choice
@@ -22,6 +22,14 @@ pickNumber (First r) = answerNumber (r .answer)
 pickNumber (Second r) = answerNumber (r .answer)
 pickNumber (Neither r) = answerNumber (r .answer)
 pickNumber (Refused f) = refusalNumber f
+
+-- The numbers of the record that is handed on: of the pass that is taken, or of the first where neither answered; zeros where the call is refused
+-- (02, Req 01).
+abbrev pub handedOn : Choice → List ℕ
+handedOn (First r) = recordNumbers r
+handedOn (Second r) = recordNumbers r
+handedOn (Neither r) = recordNumbers r
+handedOn (Refused f) = replicate recordWidth 0
 
 -- The slot of a sector in the area of a pass, in three numbers: the pass, its first byte, and its bytes.
 abbrev pub slotPart : Layout → (sector pass : ℕ) → List ℕ

@@ -2,16 +2,15 @@
 use answers::Record;
 use answers::Records;
 use layouts::MOST_SECTORS;
-ghost use mathlib.Core.Bool.{cond};
 ghost use mathlib.Core.Path.{_≡_};
-ghost use Prim.Native.Nat.{_-_, _*_};
+ghost use Prim.Native.Nat.{_-_, _*_, _≤_};
 ghost use lib.ListN.{length, replicate};
 ghost use Rattle.layouts.specs.Layouts.{mostSectors};
 ghost use Rattle.answers.specs.Answers.{answerNumber};
 ghost use Rattle.station.specs.Records.{recordWidth, recordNumbers, recordList, numberedAt};
 
 // How many numbers a record is handed out in.
-const WIDTH: usize = 1;
+pub(crate) const WIDTH: usize = 2;
 
 // The number of a record's answer.
 pub(crate) fn record_number(record: Record) -> u8
@@ -21,28 +20,28 @@ pub(crate) fn record_number(record: Record) -> u8
     answers::answer_number(answer)
 }
 
-// A sector's numbers, or zeros where the track has no such sector.
-fn sector_numbers(there: bool, record: Record) -> [u8; WIDTH]
-    ensures { λ r. ⌜ r ≡ cond there (recordNumbers «record») (replicate recordWidth 0) ⌝ }
+// A record's numbers.
+pub(crate) fn record_numbers(record: Record) -> [u32; WIDTH]
+    ensures { λ r. ⌜ r ≡ recordNumbers «record» ⌝ }
 {
-    if there {
-        return [record_number(record)];
-    }
-    [0; WIDTH]
+    [record_number(record) as u32, record.place]
 }
 
-// The numbers of all sectors, with zeros past the count.
-pub(crate) fn list_of(count: usize, records: Records) -> [u8; MOST_SECTORS * WIDTH]
-    ensures { λ r. ⌜ r ≡ recordList count (records .list) ⌝ }
+// Lists the numbers of the sectors that there are, in a list of zeros.
+pub(crate) fn list_sectors(count: usize, records: Records, list: &mut [u32])
+    requires { ⌜ (count ≤ mostSectors) × (now list ≡ replicate (mostSectors * recordWidth) 0) ⌝ }
+    ensures { λ r. ⌜ now (list .exit) ≡ recordList count records ⌝ }
 {
-    let mut list = [0; MOST_SECTORS * WIDTH];
     let mut i = 0;
-    while i < MOST_SECTORS {
-        let numbers = sector_numbers(i < count, records.list[i]);
+    while i < count {
+        let answered = records.answers[i];
+        let answer = answered.answer;
+        let place = records.places[i];
+        let numbers = record_numbers(Record { answer, place });
         list[i * WIDTH] = numbers[0];
+        list[i * WIDTH + 1] = numbers[1];
         i += 1;
     }
-    list
 }
 
 // The index of a sector.
@@ -56,18 +55,21 @@ fn index_of(sector: u32) -> usize
 }
 
 // The record of a sector, by the numbers of all. A sector that there is not has none, and a pick refuses it.
-pub(crate) fn record_at(list: &[u8], sector: u32) -> Record
+pub(crate) fn record_at(list: &[u32], sector: u32) -> Record
     requires { ⌜ length (now list) ≡ mostSectors * recordWidth ⌝ }
     ensures { λ r. ⌜ r ≡ numberedAt (now (list .entry)) sector ⌝ }
 {
     let index = index_of(sector);
     if index < MOST_SECTORS {
         let number = list[index * WIDTH];
+        let place = list[index * WIDTH + 1];
         return Record {
-            answer: answers::answer_of(number as u32),
+            answer: answers::answer_of(number),
+            place,
         };
     }
     Record {
         answer: answers::answer_of(0),
+        place: 0,
     }
 }

@@ -1,9 +1,11 @@
-// The pick from two passes, for callers that hold numbers: the number of what was picked, and where its bytes are.
+// The pick from two passes, for callers that hold numbers: the number of what was picked, its record, and where its bytes are.
+use super::records::WIDTH;
 use super::records::record_number;
+use super::records::record_numbers;
 use pick::Choice;
 ghost use mathlib.Core.Path.{_≡_};
 ghost use Rattle.layouts.specs.Layouts.{layoutOf};
-ghost use Rattle.station.specs.Picks.{pickNumber, slotPart, partOf, There, Known};
+ghost use Rattle.station.specs.Picks.{pickNumber, handedOn, slotPart, partOf, There, Known};
 
 // The number of what was picked: its answer's, or the refusal's.
 pub(crate) fn pick_number(picked: Choice) -> u8
@@ -14,6 +16,18 @@ pub(crate) fn pick_number(picked: Choice) -> u8
         Choice::Second(record) => record_number(record),
         Choice::Neither(record) => record_number(record),
         Choice::Refused(refusal) => calls::refusal_number(refusal),
+    }
+}
+
+// The record that is handed on, in numbers; zeros where the call is refused.
+pub(crate) fn handed_on(picked: Choice) -> [u32; WIDTH]
+    ensures { λ r. ⌜ r ≡ handedOn picked ⌝ }
+{
+    match picked {
+        Choice::First(record) => record_numbers(record),
+        Choice::Second(record) => record_numbers(record),
+        Choice::Neither(record) => record_numbers(record),
+        Choice::Refused(_) => [0; WIDTH],
     }
 }
 

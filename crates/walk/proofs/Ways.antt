@@ -1,6 +1,7 @@
 -- One round of the walk as a relation: the ways that it can go, that every round goes one of them, and what each way says of the places.
 use mathlib.Core.Path.{_≡_, refl}
 use mathlib.Core.Bool.{Bool, true, false, and-eq-true-iff, _&&_}
+use mathlib.Core.Logic.{inl, inr}
 use Prim.Native.Nat.{ℕ, _+_, _≤_, _<_}
 use native.Mathlib.Omega.{arith}
 use lib.Dec.{eqb, leb}
@@ -10,15 +11,19 @@ use Rattle.cells.specs.declared.Mode.{Mode}
 use Rattle.cells.specs.declared.Mode.the-variants.{Fm, Mfm}
 use Rattle.layouts.specs.declared.Layout.{Layout}
 use Rattle.layouts.specs.declared.Track.{Track}
-use Rattle.marks.specs.Marks.{markCells}
+use Rattle.marks.specs.Marks.{markCells, stands}
 use Rattle.search.specs.Search.{among, identifierMarks, eitherMarks, blockMarks, firstMark}
 use Rattle.marks.specs.declared.Mark.{Mark}
-use Rattle.marks.specs.declared.Mark.the-variants.{Identifier}
+use Rattle.marks.specs.declared.Mark.the-variants.{Index, Identifier, Data, Control, Open}
+use Rattle.marks.proofs.Spelling.{stands-room}
 use Rattle.search.specs.declared.Found.{Found}
 use Rattle.search.specs.declared.Found.the-variants.{At, Nothing}
 use Rattle.search.proofs.Firsts.{first-known}
 use Rattle.walk.specs.Walk.{reach, edcRight, ours, claimed, first, reached, accepted, owned, judged, roomy, marked, round}
 use Rattle.layouts.specs.Layouts.{blockCells}
+use Rattle.walk.specs.Turns.{BlockStands}
+use Rattle.verdicts.proofs.Tests.{clash}
+use Rattle.walk.specs.declared.Block.{Block}
 use Rattle.walk.specs.declared.Block.the-variants.{Missing, Beyond, Within}
 use Rattle.walk.specs.declared.Event.{Event}
 use Rattle.walk.specs.declared.Event.the-variants.{Bad, Foreign, Accepted}
@@ -118,13 +123,17 @@ module _ (t : Track) (c : ℕ → ℕ) (n : ℕ) where
 
   -- ---- what a round that goes on says of the places
 
-  -- An accepted sector number is one of the layout's, and a block within the image is.
+  -- The mark of a block stands within the image, and so does all of a block within it.
+  abbrev pub Whole : Block → Type 0
+  Whole Missing = Unit {0}
+  Whole (Beyond m) = (m ≤ n) × BlockStands (t .layout .mode) c n m
+  Whole (Within m) = (m + blockCells (t .layout) ≤ n) × BlockStands (t .layout .mode) c n m
+
+  -- An accepted sector number is one of the layout's, and what it gives is so.
   abbrev pub Sound : Event → Type 0
   Sound Bad = Unit {0}
   Sound Foreign = Unit {0}
-  Sound (Accepted s Missing) = (1 ≤ s) × (s ≤ t .layout .sectors)
-  Sound (Accepted s (Beyond m)) = (1 ≤ s) × (s ≤ t .layout .sectors)
-  Sound (Accepted s (Within m)) = ((1 ≤ s) × (s ≤ t .layout .sectors)) × (m + blockCells (t .layout) ≤ n)
+  Sound (Accepted s b) = ((1 ≤ s) × (s ≤ t .layout .sectors)) × Whole b
 
   -- The round goes on further, and within the image.
   abbrev pub Onward : ℕ → Round → Type 0
@@ -147,16 +156,29 @@ module _ (t : Track) (c : ℕ → ℕ) (n : ℕ) where
   placed : {p i : ℕ} {b : Bool} → Read p i b → (p ≤ i) × (rest (t .layout) i ≤ n)
   placed {p} {i} r = (first-known (t .layout .mode) c n identifierMarks p n i (r .kind) (r .place) .low, leb-true _ _ (r .room))
 
+  -- A mark of a block is one of three.
+  of-block : (m : ℕ) (k : Mark) → among blockMarks k ≡ true → stands (t .layout .mode) c n k m ≡ true → BlockStands (t .layout .mode) c n m
+  of-block m Index e h = absurd (clash cc)
+  of-block m Identifier e h = absurd (clash cc)
+  of-block m Data e h = inl h
+  of-block m Control e h = inr (inl h)
+  of-block m Open e h = inr (inr h)
+
   pub onward : (p : ℕ) (o : Round) → Way p o → Onward p o
   onward p o (none e) = tt
   onward p o (short i k e h) = tt
   onward p o (wrong i r) = let h = placed r in let s = mark-some (t .layout .mode) in (omega arith, omega arith, tt)
   onward p o (other i r x) = let h = placed r in (omega arith, omega arith, tt)
-  onward p o (lost i took e) = let h = placed (took .read) in (omega arith, omega arith, numbered i (took .owns))
-  onward p o (again i m k took e s) = let h = placed (took .read) in (omega arith, omega arith, numbered i (took .owns))
+  onward p o (lost i took e) = let h = placed (took .read) in (omega arith, omega arith, (numbered i (took .owns), tt))
+  onward p o (again i m k took e s) = let h = placed (took .read) in (omega arith, omega arith, (numbered i (took .owns), tt))
   onward p o (block i m k took e s z) =
       let h = placed (took .read) in
-      let a = first-known (t .layout .mode) c n eitherMarks (rest (t .layout) i) _ m k e .low in
+      let a = first-known (t .layout .mode) c n eitherMarks (rest (t .layout) i) _ m k e in
+      let low = a .low in
       let b = leb-true (m + blockCells (t .layout)) n z in
-      (omega arith, b, (numbered i (took .owns), b))
-  onward p o (cut i m k took e s z) = let h = placed (took .read) in (omega arith, omega arith, numbered i (took .owns))
+      (omega arith, b, (numbered i (took .owns), (b, of-block m k s (a .there .standing-there))))
+  onward p o (cut i m k took e s z) =
+      let h = placed (took .read) in
+      let a = first-known (t .layout .mode) c n eitherMarks (rest (t .layout) i) _ m k e .there .standing-there in
+      let b = stands-room (t .layout .mode) c n k m a in
+      (omega arith, omega arith, (numbered i (took .owns), (omega arith, of-block m k s a)))

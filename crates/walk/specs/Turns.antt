@@ -1,7 +1,8 @@
 -- What the walk does as it goes: an address as it is read, and whether it is of this track, by its bytes. (Aids of the
 -- code; the law `own` says that it is the definition's. No promise rests on them.)
-use mathlib.Core.Bool.{Bool, _&&_}
+use mathlib.Core.Bool.{Bool, true, _&&_}
 use mathlib.Core.List.{_++_}
+use mathlib.Core.Logic.{_⊎_}
 use mathlib.Core.Path.{_≡_}
 use Prim.Native.Nat.{ℕ, _+_, _≤_}
 use lib.Dec.{eqb, leb}
@@ -10,8 +11,8 @@ use Rattle.cells.specs.declared.Mode.{Mode}
 use Rattle.edc.specs.Register.{edcOf}
 use Rattle.layouts.specs.declared.Layout.{Layout}
 use Rattle.layouts.specs.declared.Track.{Track}
-use Rattle.marks.specs.Marks.{covered}
-use Rattle.marks.specs.declared.Mark.the-variants.{Identifier}
+use Rattle.marks.specs.Marks.{covered, stands}
+use Rattle.marks.specs.declared.Mark.the-variants.{Identifier, Data, Control, Open}
 use Rattle.search.specs.Search.{eitherMarks, firstMark}
 use Rattle.walk.specs.Walk.{reach, reached}
 use Rattle.walk.specs.declared.Block.{Block}
@@ -40,8 +41,12 @@ isOurs t first second third fourth =
     && leb 1 third
     && leb third (t .layout .sectors)
 
--- A block within an image of the house bound lies at a cell that sums can take.
-abbrev pub Placed : Block → Type 0
-Placed Missing = Unit {0}
-Placed (Beyond m) = Unit {0}
-Placed (Within m) = m ≤ 2147483648
+-- A mark of a block stands at p: a data, a control or an open mark.
+abbrev pub BlockStands : Mode → (c : ℕ → ℕ) → (n p : ℕ) → Type 0
+BlockStands mode c n p = (stands mode c n Data p ≡ true) ⊎ ((stands mode c n Control p ≡ true) ⊎ (stands mode c n Open p ≡ true))
+
+-- In an image of the house bound the mark of a block begins at a cell that sums can take, and of one within the image it stands there.
+abbrev pub Placed : Mode → (c : ℕ → ℕ) → (n : ℕ) → Block → Type 0
+Placed mode c n Missing = Unit {0}
+Placed mode c n (Beyond m) = m ≤ 2147483648
+Placed mode c n (Within m) = (m ≤ 2147483648) × BlockStands mode c n m

@@ -1,32 +1,29 @@
 //! Picks from two passes, and how the two sides are held against each other on one of them.
+use super::read::any_record;
 use crate::reference::pick::{taken, Picker};
 use crate::rng::Rng;
-use crate::station::{self, Reading};
+use crate::station::{self, Record, MOST_SECTORS, NO_PLACE};
 use crate::tally::met::{Row, ANSWERS};
 use crate::tally::Tally;
+use crate::tracks::worn::LONGEST;
 use crate::tracks::Track;
 
 /// A pass over a track.
 #[derive(Clone, PartialEq, Eq)]
 pub struct Pass {
     pub area: Vec<u8>,
-    pub reading: Reading,
+    pub records: [Record; MOST_SECTORS],
 }
 
 impl Pass {
-    /// With an area full of one byte, and one answer for all sectors.
-    pub fn all(track: Track, byte: u8, answer: u8) -> Pass {
-        Pass { area: vec![byte; track.layout().area_bytes()], reading: answers([answer; 26]) }
+    /// With an area full of one byte, and one record for all sectors.
+    pub fn all(track: Track, byte: u8, record: Record) -> Pass {
+        Pass { area: vec![byte; track.layout().area_bytes()], records: [record; MOST_SECTORS] }
     }
 
     pub fn lent(&self) -> station::Pass<'_> {
-        station::Pass { area: &self.area, answers: &self.reading.answers }
+        station::Pass { area: &self.area, records: &self.records }
     }
-}
-
-/// A reading with these answers. A pick looks at nothing else.
-pub fn answers(answers: [u8; 26]) -> Reading {
-    Reading { answers, ..Reading::default() }
 }
 
 /// All that is handed to a pick.
@@ -38,45 +35,83 @@ pub struct Call {
     pub second: Pass,
 }
 
+/// What comes back from a pick.
+#[derive(Clone, Copy, Debug, PartialEq, Eq)]
+pub struct Outcome {
+    pub number: u8,
+    pub taken: [u32; 3],
+    pub record: Record,
+}
+
+impl Outcome {
+    /// The number is that of the record which is handed on.
+    pub fn new(taken: [u32; 3], record: Record) -> Outcome {
+        Outcome { number: record.answer as u8, taken, record }
+    }
+
+    /// That of a refused call.
+    pub fn refused(number: u8) -> Outcome {
+        Outcome { number, taken: [0; 3], record: Record::default() }
+    }
+}
+
 impl Call {
-    /// Random areas with random answers, of which every eighth or so is no answer.
+    /// Random areas with random records.
     pub fn new(rng: &mut Rng, track: Track) -> Call {
         let mut pass = || {
-            let reading = answers([0; 26].map(|_: u8| match rng.below(8) {
-                0 => rng.byte(),
-                _ => ANSWERS[rng.below(ANSWERS.len())],
-            }));
-            Pass { area: rng.bytes(track.layout().area_bytes()), reading }
+            let records = [0; MOST_SECTORS].map(|_| Record { answer: answer(rng), place: place(rng) });
+            Pass { area: rng.bytes(track.layout().area_bytes()), records }
         };
         let (first, second) = (pass(), pass());
         let sector = 1 + rng.below(track.layout().sectors) as u32;
         Call { layout: track.layout, sector, first, second }
     }
 
-    /// What comes of it on one side: the number and what is taken, which held something else before.
-    fn outcome(&self, rng: &mut Rng, picker: Picker) -> (u8, [u32; 3]) {
-        let mut taken = [0; 3].map(|_: u32| rng.bits() as u32 | 1);
-        let number = picker(self.layout, self.sector, self.first.lent(), self.second.lent(), &mut taken);
-        (number, taken)
+    /// What comes of it on one side. All that is written held something else before.
+    fn outcome(&self, rng: &mut Rng, picker: Picker) -> Outcome {
+        let (mut taken, mut record) = ([0; 3].map(|_| rng.bits() as u32 | 1), any_record(rng));
+        let (first, second) = (self.first.lent(), self.second.lent());
+        let number = picker(self.layout, self.sector, first, second, &mut taken, &mut record);
+        Outcome { number, taken, record }
+    }
+}
+
+/// Every sixth or so is no answer: a byte, any number, or one whose low byte is an answer's.
+fn answer(rng: &mut Rng) -> u32 {
+    let right = u32::from(ANSWERS[rng.below(ANSWERS.len())]);
+    match rng.below(18) {
+        0 => rng.byte().into(),
+        1 => rng.bits() as u32,
+        2 => right | 1 << (8 + rng.below(24)),
+        _ => right,
+    }
+}
+
+/// Most often a cell of an image, whatever the answer beside it.
+fn place(rng: &mut Rng) -> u32 {
+    match rng.below(6) {
+        0 => NO_PLACE,
+        1 => rng.bits() as u32,
+        _ => rng.below(8 * LONGEST) as u32,
     }
 }
 
 /// Holds the library against the reference on one call, and hands back their outcome.
-pub fn compare(tally: &mut Tally, rng: &mut Rng, call: &Call) -> (u8, [u32; 3]) {
+pub fn compare(tally: &mut Tally, rng: &mut Rng, call: &Call) -> Outcome {
     let Call { layout, sector, first, second, .. } = call;
     let expected = call.outcome(rng, taken);
     let lent = call.clone();
     let found = lent.outcome(rng, station::pick);
-    let (lengths, answers) = ((first.area.len(), second.area.len()), (first.reading.answers, second.reading.answers));
-    assert_eq!(found, expected, "layout {layout}, sector {sector}, areas of {lengths:?} bytes, answers {answers:?}");
+    let (lengths, records) = ((first.area.len(), second.area.len()), (first.records, second.records));
+    assert_eq!(found, expected, "layout {layout}, sector {sector}, areas of {lengths:?} bytes, records {records:?}");
     assert!(lent.first == *first && lent.second == *second, "a pass changed");
     tally.input();
-    tally.met(row(expected), expected.0);
+    tally.met(row(expected), expected.number);
     expected
 }
 
 /// Where an outcome counts: by the pass that is taken, or as a refusal.
-fn row((number, [pass, ..]): (u8, [u32; 3])) -> Row {
+fn row(Outcome { number, taken: [pass, ..], .. }: Outcome) -> Row {
     match pass {
         1 => Row::First,
         2 => Row::Second,

@@ -1,8 +1,9 @@
 //! Calls of a reader, and how the two sides are held against each other on one of them.
 use crate::reference::dump::Reader;
 use crate::reference::read::read;
+use crate::reference::records::at;
 use crate::rng::Rng;
-use crate::station::{self, Reading};
+use crate::station::{self, Reading, Record, MOST_SECTORS, NO_PLACE};
 use crate::tally::met::Row;
 use crate::tally::Tally;
 use crate::tracks::Track;
@@ -32,7 +33,8 @@ impl Call {
         let image = [&vec![0x44; before], &self.image[..]].concat();
         let lent = garbage(rng, before + self.area + after);
         let mut area = lent.clone();
-        let mut reading = Reading { answers: [rng.byte() | 1; 26], counts: [rng.bits() as u32 | 1; 2] };
+        let mut reading =
+            Reading { records: [0; MOST_SECTORS].map(|_| any_record(rng)), counts: [rng.bits() as u32 | 1; 2] };
         let slots = before..before + self.area;
         let number = reader(layout, cylinder, side, &image[before..], &mut area[slots.clone()], &mut reading);
         assert_eq!(area[..before], lent[..before], "bytes before the area: {self:?}");
@@ -47,6 +49,11 @@ fn garbage(rng: &mut Rng, length: usize) -> Vec<u8> {
     let mut bytes = eight.repeat(length / 8 + 1);
     bytes.truncate(length);
     bytes
+}
+
+/// A record of any numbers but 0.
+pub(super) fn any_record(rng: &mut Rng) -> Record {
+    Record { answer: rng.bits() as u32 | 1, place: rng.bits() as u32 | 1 }
 }
 
 /// What comes back from a reader.
@@ -66,33 +73,44 @@ impl Outcome {
     /// What the library reads from an image, which it has to accept.
     pub fn of_image(track: Track, image: &[u8]) -> Outcome {
         let Track { layout, cylinder, side } = track;
-        let mut outcome = Outcome::refused(0, track.layout().area_bytes());
-        let number = station::read(layout, cylinder, side, image, &mut outcome.area, &mut outcome.reading);
-        assert_eq!(number, 0, "refusal of the reader: {track:?}");
+        // what is lent holds something else before
+        let reading = Reading { records: [Record { answer: 99, place: 99 }; MOST_SECTORS], counts: [99; 2] };
+        let mut outcome = Outcome { number: 99, reading, area: vec![99; track.layout().area_bytes()] };
+        outcome.number = station::read(layout, cylinder, side, image, &mut outcome.area, &mut outcome.reading);
+        assert_eq!(outcome.number, 0, "refusal of the reader: {track:?}");
         outcome
     }
 
     /// The sectors that can be rewritten, if their marks stand on byte boundaries.
     pub fn whole(&self) -> Vec<usize> {
-        let answers = (1..).zip(self.reading.answers);
-        answers.filter(|(_, answer)| [1, 2, 25, 26].contains(answer)).map(|(sector, _)| sector).collect()
+        let records = (1..).zip(self.reading.records);
+        records.filter(|(_, record)| [1, 2, 25, 26].contains(&record.answer)).map(|(sector, _)| sector).collect()
     }
 
     /// That of a track with these contents, formatted.
     pub fn of_contents(track: Track, data: &[u8], marks: &[u8]) -> Outcome {
         let mut reading = Reading::default();
-        for (answer, &mark) in reading.answers.iter_mut().zip(marks) {
-            *answer = if mark == 0xFB { 1 } else { 2 };
+        for (sector, &mark) in (1..).zip(marks) {
+            let (_, place) = track.places(sector);
+            reading.records[sector - 1] = at(if mark == 0xFB { 1 } else { 2 }, 8 * place);
         }
         assert_eq!(marks.len(), track.layout().sectors);
         Outcome { number: 0, reading, area: data.to_vec() }
+    }
+
+    /// That of the same track where it begins some cells later.
+    pub fn later(mut self, cells: usize) -> Outcome {
+        let sectors = self.reading.records.iter_mut().filter(|record| record.answer > 0);
+        sectors.filter(|record| record.place != NO_PLACE).for_each(|record| record.place += cells as u32);
+        self
     }
 
     /// Counts one input with this outcome. Answers past the layout's count and those of a refused call are 0.
     pub fn count(&self, tally: &mut Tally) {
         tally.input();
         tally.met(Row::Read, self.number);
-        self.reading.answers.iter().filter(|&&answer| answer > 0).for_each(|&answer| tally.met(Row::Answer, answer));
+        let answers = self.reading.records.iter().map(|record| record.answer);
+        answers.filter(|&answer| answer > 0).for_each(|answer| tally.met(Row::Answer, answer));
         let [bad, foreign] = self.reading.counts.map(u64::from);
         tally.met_times(Row::Identifier, 0, bad);
         tally.met_times(Row::Identifier, 1, foreign);
@@ -101,8 +119,9 @@ impl Outcome {
 
 impl fmt::Debug for Outcome {
     fn fmt(&self, f: &mut fmt::Formatter) -> fmt::Result {
-        let Reading { answers, counts } = self.reading;
-        write!(f, "{}, answers {answers:?}, counts {counts:?}", self.number)
+        let Reading { records, counts } = self.reading;
+        let records = records.map(|Record { answer, place }| (answer, place));
+        write!(f, "{}, answers and places {records:?}, counts {counts:?}", self.number)
     }
 }
 

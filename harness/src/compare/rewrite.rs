@@ -4,7 +4,7 @@ use super::{among_others, difference};
 use crate::reference::rewrite::{self, Plan, Request};
 use crate::reference::stores::stores;
 use crate::rng::Rng;
-use crate::station;
+use crate::station::{self, Record};
 use crate::tally::met::Row;
 use crate::tally::Tally;
 use crate::tracks::Track;
@@ -107,16 +107,24 @@ impl Call {
         image
     }
 
-    /// What has to be read after some stores of `all`, if before the first of them `before` was.
+    /// What the library reads before the first store of a plan, which has to note the place in the sector's record.
+    pub fn before(&self, plan: Plan) -> Outcome {
+        let before = Outcome::of_image(self.track, &self.image);
+        assert_eq!(before.reading.records[self.sector as usize - 1].place, plan[1], "the noted place: {self:?}");
+        before
+    }
+
+    /// What has to be read after some stores of `all`, if before the first of them `before` was: every other sector as
+    /// it was, with its place, and the named one at its old place too.
     pub fn expected(&self, before: &Outcome, made: usize, all: usize) -> Outcome {
         let mut after = before.clone();
         let (index, size) = (self.sector as usize - 1, self.contents.len());
-        let slot = &mut after.area[index * size..][..size];
+        let (Record { place, .. }, slot) = (before.reading.records[index], &mut after.area[index * size..][..size]);
         if made == all {
-            after.reading.answers[index] = if self.mark == 0xFB { 1 } else { 2 };
+            after.reading.records[index] = Record { answer: if self.mark == 0xFB { 1 } else { 2 }, place };
             slot.copy_from_slice(&self.contents);
         } else if made > 0 {
-            after.reading.answers[index] = 25;
+            after.reading.records[index] = Record { answer: 25, place };
             slot.fill(0);
         }
         after

@@ -1,4 +1,5 @@
-//! The papers' rules once more in Rust: written from document 01 and ISO 7065-2 ("004"), not from the Rattle code.
+//! The papers' rules once more in Rust: written from documents 01 and 02 and ISO 7065-2 ("004"), not from the Rattle
+//! code.
 pub mod coding;
 pub mod dump;
 pub mod edc;
@@ -8,6 +9,7 @@ pub mod marks;
 pub mod pick;
 pub mod plain;
 pub mod read;
+pub mod records;
 pub mod rewrite;
 mod search;
 pub mod stores;

@@ -1,16 +1,16 @@
-//! The pick from two passes (01, "Two passes", "Refused calls").
+//! The pick from two passes (01, "Two passes", "Refused calls"; 02, request 01).
 use super::layouts::LAYOUTS;
-use crate::station::Pass;
+use crate::station::{Pass, Record};
 
 /// What is handed back for one sector.
 #[derive(Clone, Copy, Debug, PartialEq, Eq)]
 pub enum Pick<'a> {
-    /// The first pass answered 1 or 2: that number and its slot.
-    First(u8, &'a [u8]),
+    /// The first pass answered 1 or 2: its record and its slot.
+    First(Record, &'a [u8]),
     /// Only the second did.
-    Second(u8, &'a [u8]),
-    /// Neither did: the first pass's number.
-    Neither(u8),
+    Second(Record, &'a [u8]),
+    /// Neither did: the first pass's record.
+    Neither(Record),
     /// The call was refused by this number.
     Refused(u8),
 }
@@ -29,31 +29,30 @@ pub fn pick<'a>(layout: u32, sector: u32, first: Pass<'a>, second: Pass<'a>) -> 
     }
     let index = sector as usize - 1;
     let slot = index * layout.size..(index + 1) * layout.size;
-    match (first.answers[index], second.answers[index]) {
-        (answer @ (1 | 2), _) => Pick::First(answer, &first.area[slot]),
-        (_, answer @ (1 | 2)) => Pick::Second(answer, &second.area[slot]),
-        (answer @ 21..=26, _) => Pick::Neither(answer),
+    let (one, two) = (first.records[index], second.records[index]);
+    match (one.answer, two.answer) {
+        (1 | 2, _) => Pick::First(one, &first.area[slot]),
+        (_, 1 | 2) => Pick::Second(two, &second.area[slot]),
+        (21..=26, _) => Pick::Neither(one),
         // no answer's number stands for a sector that was never met
-        _ => Pick::Neither(21),
+        _ => Pick::Neither(Record { answer: 21, ..one }),
     }
 }
 
-/// A pick in numbers: layout, sector, first and second pass, what is taken.
-pub type Picker = fn(u32, u32, Pass, Pass, &mut [u32; 3]) -> u8;
+/// A pick in numbers: layout, sector, first and second pass, what is taken, the record that is handed on.
+pub type Picker = fn(u32, u32, Pass, Pass, &mut [u32; 3], &mut Record) -> u8;
 
 /// The same in numbers: the answer's or the refusal's. What is taken is the pass, 1 or 2, the first byte of its slot in
-/// that pass's area, and the slot's length; or three zeros.
+/// that pass's area, and the slot's length; or three zeros. A refusal hands on no record, but zeros.
 #[inline]
-pub fn taken(layout: u32, sector: u32, first: Pass, second: Pass, taken: &mut [u32; 3]) -> u8 {
-    let (pass, slot, number) = match pick(layout, sector, first, second) {
-        Pick::First(answer, slot) => (1, slot, answer),
-        Pick::Second(answer, slot) => (2, slot, answer),
-        Pick::Neither(number) | Pick::Refused(number) => {
-            *taken = [0; 3];
-            return number;
-        }
+pub fn taken(layout: u32, sector: u32, first: Pass, second: Pass, taken: &mut [u32; 3], record: &mut Record) -> u8 {
+    let part = |pass, slot: &[u8]| [pass, (sector - 1) * slot.len() as u32, slot.len() as u32];
+    let (number, part, handed_on) = match pick(layout, sector, first, second) {
+        Pick::First(one, slot) => (one.answer as u8, part(1, slot), one),
+        Pick::Second(two, slot) => (two.answer as u8, part(2, slot), two),
+        Pick::Neither(one) => (one.answer as u8, [0; 3], one),
+        Pick::Refused(number) => (number, [0; 3], Record::default()),
     };
-    let size = slot.len() as u32;
-    *taken = [pass, (sector - 1) * size, size];
+    (*taken, *record) = (part, handed_on);
     number
 }

@@ -3,7 +3,8 @@ use super::coding::Mode;
 use super::edc::edc;
 use super::layouts::{of_track, Layout};
 use super::marks::{Mark, Marks, FM, MFM};
-use crate::station::Reading;
+use super::records::{at, nowhere};
+use crate::station::{Reading, Record};
 
 /// Reads a track, as `read::read` does.
 pub fn read(layout: u32, cylinder: u32, side: u32, image: &[u8], area: &mut [u8], reading: &mut Reading) -> u8 {
@@ -19,10 +20,10 @@ pub fn read(layout: u32, cylinder: u32, side: u32, image: &[u8], area: &mut [u8]
     reading.counts = [met.bad, met.foreign];
     for number in 1..=layout.sectors {
         let accepted: Vec<_> = met.accepted.iter().filter(|accepted| accepted.sector == number).collect();
-        reading.answers[number - 1] = match accepted[..] {
-            [] => 21,
-            [only] => only.answer,
-            _ => 22,
+        reading.records[number - 1] = match accepted[..] {
+            [] => nowhere(21),
+            [only] => only.record,
+            _ => nowhere(22),
         };
         if let [Accepted { bytes, .. }] = accepted[..] {
             area[(number - 1) * layout.size..][..bytes.len()].copy_from_slice(bytes);
@@ -42,16 +43,15 @@ pub(super) struct Met {
 /// An accepted identifier, with what its block gives.
 pub(super) struct Accepted {
     pub(super) sector: usize,
-    pub(super) answer: u8,
-    /// The cell at which the block's mark begins; 0 without a block.
-    pub(super) place: usize,
+    /// The sector's, if it has no other identifier.
+    pub(super) record: Record,
     /// The data, where the answer says that it is to be had.
     bytes: Vec<u8>,
 }
 
 impl Accepted {
-    fn refused(sector: usize, answer: u8, place: usize) -> Accepted {
-        Accepted { sector, answer, place, bytes: vec![] }
+    fn refused(sector: usize, record: Record) -> Accepted {
+        Accepted { sector, record, bytes: vec![] }
     }
 }
 
@@ -97,21 +97,21 @@ fn walk<const MARK: usize>(
         let found = (cell..=cell + window).find_map(|place| Some((place, kind_at(place)?)));
         let (place, kind) = found.unwrap_or((cell, 0));
         if kind == 0 {
-            met.accepted.push(Accepted::refused(sector, 23, 0));
+            met.accepted.push(Accepted::refused(sector, nowhere(23)));
             continue;
         }
         // 4
         cell = place + 8 * MARK + 16 * (layout.size + 2);
         if cell > cells {
-            met.accepted.push(Accepted::refused(sector, 24, place));
+            met.accepted.push(Accepted::refused(sector, at(24, place)));
             return None;
         }
         let block = bytes(image, place + 8 * MARK, layout.size + 2);
         let is_right = edc(&[kinds[kind].bytes, &block].concat()) == 0;
         met.accepted.push(match kind {
-            3 => Accepted::refused(sector, 25, place),
-            _ if !is_right => Accepted::refused(sector, 26, place),
-            _ => Accepted { sector, answer: kind as u8, place, bytes: block[..layout.size].to_vec() },
+            3 => Accepted::refused(sector, at(25, place)),
+            _ if !is_right => Accepted::refused(sector, at(26, place)),
+            _ => Accepted { sector, record: at(kind as u32, place), bytes: block[..layout.size].to_vec() },
         });
     }
 }

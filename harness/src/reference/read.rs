@@ -3,11 +3,12 @@
 use super::coding::Mode;
 use super::edc::{continued, edc};
 use super::marks;
+use super::records::{at, nowhere};
 use super::walk::{decode, stored, walk, Found, Kind, Meets, Track, BYTE};
-use crate::station::Reading;
+use crate::station::{Reading, Record};
 
 /// Reads a track. Answers 0, or the number of the refusal. Nothing is left of what area and reading held: slots and
-/// answers stand by sector number, the counts are those of bad and foreign identifiers, all else is zero.
+/// records stand by sector number, the counts are those of bad and foreign identifiers, all else is zero.
 #[inline(never)]
 pub fn read(layout: u32, cylinder: u32, side: u32, image: &[u8], area: &mut [u8], reading: &mut Reading) -> u8 {
     *reading = Reading::default();
@@ -19,17 +20,17 @@ pub fn read(layout: u32, cylinder: u32, side: u32, image: &[u8], area: &mut [u8]
         }
     };
     let layout = track.layout;
-    let Reading { answers, counts } = reading;
-    let answers = &mut answers[..layout.sectors];
-    answers.fill(21);
+    let Reading { records, counts } = reading;
+    let records = &mut records[..layout.sectors];
+    records.fill(nowhere(21));
     let (data, control) = match layout.mode {
         Mode::Fm => (marks::FM.data.bytes, marks::FM.control.bytes),
         Mode::Mfm => (marks::MFM.data.bytes, marks::MFM.control.bytes),
     };
     let (data, control) = (edc(data), edc(control));
-    walk(track, &mut Filling { image, size: layout.size, data, control, area, answers, counts });
-    let slots = area.chunks_exact_mut(layout.size).zip(answers);
-    slots.filter(|(_, answer)| **answer > 2).for_each(|(slot, _)| slot.fill(0));
+    walk(track, &mut Filling { image, size: layout.size, data, control, area, records, counts });
+    let slots = area.chunks_exact_mut(layout.size).zip(records);
+    slots.filter(|(_, record)| record.answer > 2).for_each(|(slot, _)| slot.fill(0));
     0
 }
 
@@ -50,7 +51,7 @@ struct Filling<'a> {
     data: u16,
     control: u16,
     area: &'a mut [u8],
-    answers: &'a mut [u8],
+    records: &'a mut [Record],
     counts: &'a mut [u32; 2],
 }
 
@@ -64,19 +65,20 @@ impl Meets for Filling<'_> {
     }
 
     fn accepted(&mut self, sector: usize, found: Found) {
-        let answer = match found {
-            Found::Nothing => 23,
-            Found::Cut => 24,
-            Found::Block { kind: Kind::Open, .. } => 25,
-            Found::Block { kind, bytes, .. } => self.block(sector, bytes, kind),
+        let found = match found {
+            Found::Nothing => nowhere(23),
+            Found::Cut { mark } => at(24, mark),
+            Found::Block { kind: Kind::Open, mark, .. } => at(25, mark),
+            Found::Block { kind, mark, bytes } => at(self.block(sector, bytes, kind), mark),
         };
-        self.answers[sector] = if self.answers[sector] == 21 { answer } else { 22 };
+        let record = &mut self.records[sector];
+        *record = if record.answer == 21 { found } else { nowhere(22) };
     }
 }
 
 impl Filling<'_> {
     /// The answer for a whole block after a data or control mark, as if no other had its number.
-    fn block(&mut self, sector: usize, from: usize, kind: Kind) -> u8 {
+    fn block(&mut self, sector: usize, from: usize, kind: Kind) -> u32 {
         let (answer, register) = if kind == Kind::Data { (1, self.data) } else { (2, self.control) };
         let slot = &mut self.area[sector * self.size..][..self.size];
         decode(self.image, from, slot);

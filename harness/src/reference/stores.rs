@@ -86,7 +86,7 @@ pub fn request(
     };
     let named: Vec<_> = accepted.iter().filter(|accepted| accepted.sector == sector as usize).collect();
     let place = match named[..] {
-        [only] if ![23, 24].contains(&only.answer) => only.place,
+        [only] if ![23, 24].contains(&only.record.answer) => only.record.place as usize,
         _ => return 10,
     };
     if place % 8 != 0 {

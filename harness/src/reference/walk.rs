@@ -41,8 +41,10 @@ pub enum Kind {
 /// What follows an accepted identifier.
 pub enum Found {
     Nothing,
-    /// A block that passes the end of the image.
-    Cut,
+    /// A block that passes the end of the image: the cell at which its mark begins.
+    Cut {
+        mark: usize,
+    },
     /// A whole block: the cell at which its mark begins, and the one at which its bytes do.
     Block {
         kind: Kind,
@@ -60,6 +62,7 @@ pub trait Meets {
 }
 
 /// Walks from cell 0 until the walk ends.
+#[inline(never)] // inlined into the reader, its loop is slower
 pub fn walk(track: Track, meets: &mut impl Meets) {
     match track.layout.mode {
         Mode::Fm => Walk::new(&FM, track, meets).run(),
@@ -176,7 +179,7 @@ impl<'a, M: Meets, const MARK: usize> Walk<'a, M, MARK> {
         let bytes = place + 8 * MARK;
         let end = bytes + BYTE * self.track.layout.size + EDC;
         if end > self.cells() {
-            return (Found::Cut, None);
+            return (Found::Cut { mark: place }, None);
         }
         (Found::Block { kind: self.rules.kind(mark), mark: place, bytes }, Some(end))
     }

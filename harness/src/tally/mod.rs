@@ -46,8 +46,8 @@ impl Tally {
     }
 
     /// An outcome, once.
-    pub fn met(&mut self, row: Row, number: u8) {
-        self.met.add(row, usize::from(number), 1);
+    pub fn met(&mut self, row: Row, number: impl Into<u32>) {
+        self.met.add(row, number.into() as usize, 1);
     }
 
     /// An outcome as many times.

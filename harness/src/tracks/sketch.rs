@@ -51,12 +51,14 @@ pub struct Sketch {
     pub cells: Vec<bool>,
     /// Where the last mark begins.
     mark: usize,
+    /// Where the data, control and open marks begin.
+    pub blocks: Vec<usize>,
 }
 
 impl Sketch {
     /// A track without a cell.
     pub fn new(track: Track) -> Sketch {
-        Sketch { track, cells: Vec::new(), mark: 0 }
+        Sketch { track, cells: Vec::new(), mark: 0, blocks: Vec::new() }
     }
 
     /// Cells 0, so that the fields behind them stand elsewhere.
@@ -96,6 +98,9 @@ impl Sketch {
 
     pub fn mark(mut self, kind: Kind) -> Self {
         self.mark = self.cells.len();
+        if [Data, Control, Open].contains(&kind) {
+            self.blocks.push(self.mark);
+        }
         let mode = self.track.mode();
         self.octets(kind.image(mode))
     }

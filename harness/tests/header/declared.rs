@@ -1,4 +1,4 @@
-//! What the C header and the `extern "C"` blocks in Rust declare, as text with single spaces.
+//! What the C header and the Rust file beside it declare, as text with single spaces.
 use crate::signatures::without_line_comments;
 
 /// One space between words, none inside brackets' edges, and no comma before a closing one.
@@ -7,7 +7,7 @@ fn plain(text: &str) -> String {
     text.replace("( ", "(").replace(" )", ")").replace(",)", ")").replace("* ", "*").replace(" ;", ";")
 }
 
-/// A C file without comments and without the preprocessor's lines.
+/// A C file without comments.
 fn without_comments(header: &str) -> String {
     let mut rest = header;
     let mut text = String::new();
@@ -16,28 +16,79 @@ fn without_comments(header: &str) -> String {
         text.push(' ');
         rest = comment.split_once("*/").expect("a comment's end").1;
     }
-    text += rest;
-    text.lines().filter(|line| !line.trim_start().starts_with('#')).collect::<Vec<_>>().join("\n")
+    text + rest
 }
 
-/// The header's enums and its prototypes. There is nothing else in it, but for the brackets of C++.
-pub fn header(text: &str) -> (Vec<String>, Vec<String>) {
-    let text = plain(&without_comments(text));
-    let inside = text.strip_prefix("extern \"C\" {").and_then(|text| text.strip_suffix('}'));
-    let items =
-        inside.expect("one extern \"C\" round all").split_terminator(';').map(plain).filter(|item| !item.is_empty());
-    let (enums, prototypes): (Vec<String>, Vec<String>) = items.partition(|item| item.starts_with("enum "));
-    assert!(prototypes.iter().all(|item| item.ends_with(')')), "neither enum nor prototype: {prototypes:#?}");
-    (enums, prototypes)
+/// What the header declares. There is nothing else in it, but for the brackets of C++.
+pub struct Header {
+    pub prototypes: Vec<String>,
+    /// The constants of its enums and its macros, each as `NAME = value`.
+    pub constants: Vec<String>,
+    /// The numbers of its one struct, the record.
+    pub record: Vec<String>,
 }
 
-/// The constants of the enums, each as `NAME = value`.
-pub fn constants(enums: &[String]) -> Vec<String> {
-    let inside = |text: &String| {
-        let (_, rest) = text.split_once('{').expect("an enum's constants");
-        rest.strip_suffix('}').expect("an enum's end").split(',').map(plain).collect::<Vec<_>>()
+impl Header {
+    pub fn new(text: &str) -> Header {
+        let text = without_comments(text);
+        let (directives, others): (Vec<&str>, Vec<&str>) =
+            text.lines().map(str::trim).partition(|line| line.starts_with('#'));
+        let others = plain(&others.join("\n"));
+        let inside = others.strip_prefix("extern \"C\" {").and_then(|text| text.strip_suffix('}'));
+        let items = items(inside.expect("one extern \"C\" round all"));
+        let (prototypes, types): (Vec<String>, Vec<String>) = items.into_iter().partition(|item| item.ends_with(')'));
+        let (structs, enums): (Vec<String>, Vec<String>) =
+            types.into_iter().partition(|item| item.starts_with("struct "));
+
+        assert!(enums.iter().all(|item| item.starts_with("enum ")), "neither type nor prototype: {enums:#?}");
+        let mut constants: Vec<String> =
+            enums.iter().flat_map(|text| braced(text, "{").split(',').map(plain).collect::<Vec<_>>()).collect();
+        constants.extend(directives.iter().filter_map(|line| defined(line)));
+        assert_eq!(structs.len(), 1, "the record is the only struct: {structs:#?}");
+        let record = numbers(braced(&structs[0], "struct station_record {"), ';', "uint32_t ", "");
+        Header { prototypes, constants, record }
+    }
+}
+
+/// The parts of a text that a semicolon ends. Those in braces end none.
+fn items(text: &str) -> Vec<String> {
+    let mut depth = 0;
+    let is_end = |c: char| {
+        depth += i32::from(c == '{') - i32::from(c == '}');
+        c == ';' && depth == 0
     };
-    enums.iter().flat_map(inside).collect()
+    text.split_terminator(is_end).map(plain).filter(|item| !item.is_empty()).collect()
+}
+
+/// What stands in the braces that a text opens at the end of its beginning.
+fn braced<'a>(text: &'a str, beginning: &str) -> &'a str {
+    let (_, rest) = text.split_once(beginning).unwrap_or_else(|| panic!("no {beginning} in {text}"));
+    rest.split_once('}').expect("a closing brace").0.trim()
+}
+
+/// The macro of a line as a constant, if it has a value: the guard has none.
+fn defined(line: &str) -> Option<String> {
+    let (name, value) = line.strip_prefix("#define ")?.split_once(' ')?;
+    Some(format!("{name} = {}", plain(value)))
+}
+
+/// The names of a struct's fields, each of which has to be one number of 32 bits.
+fn numbers(fields: &str, end: char, before: &str, after: &str) -> Vec<String> {
+    let name = |field: &str| {
+        let name = field.trim().strip_prefix(before).and_then(|rest| rest.strip_suffix(after));
+        let name = name.filter(|name| name.chars().all(|c| c.is_ascii_lowercase() || c == '_'));
+        name.unwrap_or_else(|| panic!("not one number of 32 bits: {field}")).to_string()
+    };
+    fields.split_terminator(end).map(name).collect()
+}
+
+/// The numbers of the record in a Rust file, where it has to be laid out as in C.
+pub fn record_in_rust(source: &str) -> Vec<String> {
+    let source = plain(&without_line_comments(source));
+    let before = source.split("pub struct Record {").next().unwrap_or("");
+    let attributes = before.rsplit(['}', ';']).next().unwrap_or("");
+    assert!(attributes.contains("#[repr(C)]"), "the record is not laid out as in C: {attributes}");
+    numbers(braced(&source, "pub struct Record {"), ',', "pub ", ": u32")
 }
 
 /// The declarations of a Rust file's one `extern "C"` block.

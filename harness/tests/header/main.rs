@@ -3,7 +3,8 @@
 mod declared;
 mod signatures;
 
-use harness::station::{LAYOUTS, LONGEST_IMAGE, MOST_SECTORS};
+use declared::Header;
+use harness::station::{LAYOUTS, LONGEST_IMAGE, MOST_SECTORS, NO_PLACE};
 use std::fs;
 use std::path::{Path, PathBuf};
 
@@ -23,10 +24,15 @@ fn exported() -> Vec<signatures::Function> {
     signatures::exported(&file("crates/station/src/lib.rt"))
 }
 
+fn header() -> Header {
+    Header::new(&file("include/station.h"))
+}
+
+/// Where the crate exports so many numbers, C and Rust have records, by the fields that each declares for them.
 #[test]
 fn the_header_declares_what_is_exported() {
-    let expected: Vec<String> = exported().iter().map(|function| function.in_c()).collect();
-    let (_, prototypes) = declared::header(&file("include/station.h"));
+    let Header { prototypes, record, .. } = header();
+    let expected: Vec<String> = exported().iter().map(|function| function.in_c(record.len())).collect();
     assert!(!expected.is_empty(), "nothing is exported");
     assert_eq!(prototypes, expected, "left: include/station.h, right: what crates/station exports");
     println!("header: {} prototypes as exported", prototypes.len());
@@ -34,9 +40,11 @@ fn the_header_declares_what_is_exported() {
 
 #[test]
 fn the_declarations_in_rust_are_what_is_exported() {
-    let expected: Vec<String> = exported().iter().map(|function| function.in_rust()).collect();
-    let declared = declared::rust(&file("include/station.rs"));
+    let source = file("include/station.rs");
+    let (declared, record) = (declared::rust(&source), declared::record_in_rust(&source));
+    let expected: Vec<String> = exported().iter().map(|function| function.in_rust(record.len())).collect();
     assert_eq!(declared, expected, "left: include/station.rs, right: what crates/station exports");
+    assert_eq!(record, header().record, "a record's numbers, left: include/station.rs, right: include/station.h");
     println!("header: {} declarations in Rust as exported", declared.len());
 }
 
@@ -117,8 +125,7 @@ fn sizes() -> Vec<String> {
 
 #[test]
 fn the_constants_are_the_specifications_numbers() {
-    let (enums, _) = declared::header(&file("include/station.h"));
-    let constants = declared::constants(&enums);
+    let constants = header().constants;
     let of =
         |prefix: &str| -> Vec<String> { constants.iter().filter(|text| text.starts_with(prefix)).cloned().collect() };
     let refusals = numbered("refusalNumber", "STATION_REFUSED_");
@@ -129,6 +136,8 @@ fn the_constants_are_the_specifications_numbers() {
     let mut others: Vec<String> =
         ["STATION_DONE = 0", "STATION_MARK_DATA = 0xFB", "STATION_MARK_CONTROL = 0xF8"].map(String::from).into();
     others.extend(sizes());
+    // unsigned by itself, in C++ too
+    others.push(format!("STATION_NO_PLACE = {NO_PLACE}u"));
     assert_eq!(constants.len(), refusals.len() + answers.len() + others.len(), "{constants:#?}");
     for other in &others {
         assert!(constants.contains(other), "the header has no {other}: {constants:#?}");

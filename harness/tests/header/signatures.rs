@@ -7,7 +7,7 @@ enum Kind {
     Number(String),
     /// `&[u8]` or `&mut [u8]`: a pointer and a length.
     Slice { element: String, written: bool },
-    /// `&[u8; 26]` or `&mut [u8; 26]`: a pointer.
+    /// `&[u32; 4]` or `&mut [u32; 4]`: a pointer.
     Array { element: String, count: String, written: bool },
 }
 
@@ -78,9 +78,20 @@ fn c_type(number: &str) -> &'static str {
     }
 }
 
+/// How many records of `fields` numbers an array holds, if its name says that it holds records.
+fn records(name: &str, element: &str, count: &str, fields: usize) -> Option<usize> {
+    let is_records = name == "record" || name.ends_with("records");
+    is_records.then(|| {
+        let numbers: usize = count.parse().expect("a count of numbers");
+        let is_whole = element == "u32" && fields > 0 && numbers % fields == 0;
+        assert!(is_whole, "{name}: [{element}; {count}] is no whole number of records with {fields} numbers each");
+        numbers / fields
+    })
+}
+
 impl Function {
-    /// The prototype in C: a slice `image` is `image` and `image_length`.
-    pub fn in_c(&self) -> String {
+    /// The prototype in C: a slice `image` is `image` and `image_length`, and records are structs of `fields` numbers.
+    pub fn in_c(&self, fields: usize) -> String {
         let constant = |written: &bool| if *written { "" } else { "const " };
         let parameter = |(name, kind): &(String, Kind)| match kind {
             Kind::Number(number) => format!("{} {name}", c_type(number)),
@@ -88,7 +99,12 @@ impl Function {
                 format!("{}{} *{name}, size_t {name}_length", constant(written), c_type(element))
             }
             Kind::Array { element, count, written } => {
-                format!("{}{} {name}[{count}]", constant(written), c_type(element))
+                let constant = constant(written);
+                match records(name, element, count, fields) {
+                    None => format!("{constant}{} {name}[{count}]", c_type(element)),
+                    Some(1) => format!("{constant}struct station_record *{name}"),
+                    Some(many) => format!("{constant}struct station_record {name}[{many}]"),
+                }
             }
         };
         let parameters: Vec<String> = self.parameters.iter().map(parameter).collect();
@@ -96,12 +112,19 @@ impl Function {
     }
 
     /// The declaration in Rust, by the same rule.
-    pub fn in_rust(&self) -> String {
+    pub fn in_rust(&self, fields: usize) -> String {
         let pointer = |written: &bool| if *written { "*mut" } else { "*const" };
         let parameter = |(name, kind): &(String, Kind)| match kind {
             Kind::Number(number) => format!("{name}: {number}"),
             Kind::Slice { element, written } => format!("{name}: {} {element}, {name}_length: usize", pointer(written)),
-            Kind::Array { element, count, written } => format!("{name}: {} [{element}; {count}]", pointer(written)),
+            Kind::Array { element, count, written } => {
+                let pointer = pointer(written);
+                match records(name, element, count, fields) {
+                    None => format!("{name}: {pointer} [{element}; {count}]"),
+                    Some(1) => format!("{name}: {pointer} Record"),
+                    Some(many) => format!("{name}: {pointer} [Record; {many}]"),
+                }
+            }
         };
         let parameters: Vec<String> = self.parameters.iter().map(parameter).collect();
         format!("fn {}({}) -> {}", self.name, parameters.join(", "), self.result)

@@ -1,10 +1,12 @@
 //! Reading: the reference against a literal reader, and `station_read` against the reference.
 mod damaged;
 mod literal;
+mod places;
 mod refusals;
 mod traps;
 
 use harness::compare::read::{compare, Call, Outcome};
+use harness::reference::records::nowhere;
 use harness::rng::Rng;
 use harness::station;
 use harness::tally::met::Row;
@@ -69,7 +71,8 @@ fn shifted_tracks() {
             let (image, data, marks) = track.random(&mut rng);
             let call = Call::new(track, shifted(&mut rng, &image, by));
             let outcome = compare(&mut tally, &mut rng, &call);
-            assert!(outcome == Outcome::of_contents(track, &data, &marks), "{outcome:?} after {by} cells: {call:?}");
+            let expected = Outcome::of_contents(track, &data, &marks).later(by);
+            assert!(outcome == expected, "{outcome:?} after {by} cells: {call:?}");
         }
     }
     tally.report();
@@ -83,7 +86,7 @@ fn two_turns() {
         let call = Call::new(track, worn::two_turns(&mut rng, track));
         let outcome = compare(&mut tally, &mut rng, &call);
         let again = if track == tracks::FM { 26 } else { 1 };
-        assert!(outcome.reading.answers[..again].iter().all(|&answer| answer == 22), "{outcome:?}: {track:?}");
+        assert_eq!(outcome.reading.records[..again], vec![nowhere(22); again], "{track:?}");
     }
     tally.report();
 }

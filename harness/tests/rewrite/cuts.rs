@@ -11,11 +11,11 @@ use harness::tracks::sketch::{Control, Identifier, Sketch};
 use harness::tracks::{self, Track};
 
 /// Cuts the rewrite after every number of stores: nothing but the named sector reads otherwise, and that one as the
-/// papers want it.
+/// papers want it, at its old place.
 fn every_cut(tally: &mut Tally, rng: &mut Rng, call: &Call) {
     let plan = call.plan(tally, rng);
     let all = plan[3] as usize;
-    let before = Outcome::of_image(call.track, &call.image);
+    let before = call.before(plan);
     call.rewritten(tally, rng, plan, |made, image| {
         let expected = call.expected(&before, made, all);
         assert_eq!(Outcome::of_image(call.track, image), expected, "read after {made} of {all} stores: {call:?}");

@@ -4,6 +4,7 @@ use harness::compare::read::Outcome;
 use harness::compare::rewrite::{Call, Sides};
 use harness::reference::coding::Mode;
 use harness::reference::edc::edc;
+use harness::reference::records::{at, nowhere};
 use harness::rng::Rng;
 use harness::tally::Tally;
 use harness::tracks::sketch::{contents, Data, Identifier, Sketch};
@@ -124,17 +125,15 @@ fn noise_does_not_become_an_identifier() {
         let address = track.address(2);
         // behind the block a whole identifier, but for the mark's first clock cell
         let sketch = Sketch::new(*track).gap(4).identifier(1).gap(22).block(Data, 1).mark(Identifier).turned(64);
-        let image = sketch.bytes(&address).edc().gap(22).block(Data, 2).gap(4).image();
-        assert_eq!(Outcome::of_image(*track, &image).reading.answers[..2], [1, 21], "the trap: {track:?}");
+        let sketch = sketch.bytes(&address).edc().gap(22).block(Data, 2).gap(4);
+        let (image, records) = (sketch.image(), [at(1, sketch.blocks[0]), nowhere(21)]);
+        assert_eq!(Outcome::of_image(*track, &image).reading.records[..2], records, "the trap: {track:?}");
         for bit in [0, 1] {
             let contents = ending_in(&mut rng, *track, bit);
             let call = Call { track: *track, sector: 1, mark: 0xFB, contents, image: image.clone() };
             let last = rewrite(&mut tally, &mut rng, &call);
-            assert_eq!(
-                Outcome::of_image(*track, &last).reading.answers[..2],
-                [1, 21],
-                "after the bit {bit}: {track:?}"
-            );
+            let found = Outcome::of_image(*track, &last).reading.records;
+            assert_eq!(found[..2], records, "after the bit {bit}: {track:?}");
             tally.input();
         }
     }
@@ -151,7 +150,8 @@ fn d11_open_and_wrong_blocks() {
         // sector 1 is open, in sector 2 a data cell is wrong
         image[last(1)] = if track == tracks::FM { 0x6B } else { 0x49 };
         image[last(2) + 9] ^= 0x10;
-        assert_eq!(Outcome::of_image(track, &image).reading.answers[..2], [25, 26], "{track:?}");
+        let records = [at(25, 8 * track.places(1).1), at(26, 8 * track.places(2).1)];
+        assert_eq!(Outcome::of_image(track, &image).reading.records[..2], records, "{track:?}");
         for sector in [1, 2] {
             let call = Call::new(&mut rng, track, sector, &image);
             rewrite(&mut tally, &mut rng, &call);

@@ -32,7 +32,7 @@ fn some_cuts(rng: &mut Rng, all: usize) -> Vec<usize> {
 pub fn rewrite(tally: &mut Tally, rng: &mut Rng, call: &Call) -> Vec<u8> {
     let plan = call.plan(tally, rng);
     let all = plan[3] as usize;
-    let (before, cuts) = (Outcome::of_image(call.track, &call.image), some_cuts(rng, all));
+    let (before, cuts) = (call.before(plan), some_cuts(rng, all));
     call.rewritten(tally, rng, plan, |made, image| {
         if cuts.contains(&made) {
             let expected = call.expected(&before, made, all);

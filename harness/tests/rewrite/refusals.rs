@@ -2,6 +2,7 @@
 use crate::facts::{block_end, mark_bytes};
 use harness::compare::read::Outcome;
 use harness::compare::rewrite::Call;
+use harness::reference::records::{at, nowhere};
 use harness::rng::Rng;
 use harness::tally::met::Row;
 use harness::tally::Tally;
@@ -150,8 +151,11 @@ fn each_refusal_alone() {
             let mut call = right.clone();
             fault.spoil(&mut rng, &right, &mut call);
             if let Fault::Read(answer) = fault {
-                let answers = Outcome::of_image(call.track, &call.image).reading.answers;
-                assert_eq!(answers[call.sector as usize - 1], answer, "read: {call:?}");
+                let sector = call.sector as usize;
+                let found = Outcome::of_image(call.track, &call.image).reading.records[sector - 1];
+                let (_, mark) = call.track.places(sector);
+                let expected = if answer == 24 { at(24, 8 * mark) } else { nowhere(answer.into()) };
+                assert_eq!(found, expected, "read: {call:?}");
             }
             assert_eq!(call.request(&mut tally, &mut rng), (fault.number(), [0; 4]), "{fault:?}: {call:?}");
             tally.input();

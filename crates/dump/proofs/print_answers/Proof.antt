@@ -13,11 +13,11 @@ abbrev μ-loop : tie.MeasureT-loop
 loop-holds : tie.Need-loop-holds Inv-loop μ-loop
 loop-holds c = search needs
 
-mul-record : tie.Need-mul-record Inv-loop μ-loop
-mul-record c = search needs
+mul-answered : tie.Need-mul-answered Inv-loop μ-loop
+mul-answered c = search needs
 
-element-copy-out-record : tie.Need-element-copy-out-record Inv-loop μ-loop
-element-copy-out-record c = search needs
+element-copy-out-answered : tie.Need-element-copy-out-answered Inv-loop μ-loop
+element-copy-out-answered c = search needs
 
 answer-number-requires : tie.Need-answer-number-requires Inv-loop μ-loop
 answer-number-requires c κs = search needs
@@ -53,8 +53,8 @@ print-answers-spec =
     Inv-loop
     μ-loop
     loop-holds
-    mul-record
-    element-copy-out-record
+    mul-answered
+    element-copy-out-answered
     answer-number-requires
     add-print-line
     cast-print-line

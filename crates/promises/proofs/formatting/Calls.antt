@@ -1,13 +1,14 @@
 -- The round trip through the calls: what format accepts reads back, and read does not refuse the image that format leaves.
-use mathlib.Core.Path.{_≡_, refl, sym, ap, subst, _∙_}
+use mathlib.Core.Path.{_≡_, refl, sym, ap, ap₂, subst, _∙_}
 use mathlib.Core.List.{List, [], _∷_, _++_}
-use Prim.Native.Nat.{ℕ, _+_, _*_, _≤_}
+use Prim.Native.Nat.{ℕ, _+_, _-_, _*_, _≤_}
 use native.Mathlib.Omega.{arith}
 use borrow.Author.Needs.{needs}
 use borrow.Author.Tests.{eq-eqb, ne-eqb, le-ltb}
-use lib.ListN.{length}
+use lib.ListN.{length, getD}
 use Rattle.cells.specs.Cells.{cell, Bytes}
 use Rattle.format.specs.Order.{Numbered, formatted}
+use Rattle.format.specs.Places.{blockPlace}
 use Rattle.format.specs.Refusals.{formTests, formatTests}
 use Rattle.calls.specs.declared.Checked.the-variants.{Passed}
 use Rattle.calls.proofs.Refusals.{told-passed}
@@ -21,11 +22,11 @@ use Rattle.layouts.specs.Tracks.{trackOf}
 use Rattle.layouts.specs.declared.Layout.{Layout}
 use Rattle.layouts.specs.declared.Track.{Track}
 use Rattle.layouts.proofs.Layouts.{every-layout, adds}
-use Rattle.read.specs.Records.{areaOf, recordsOf}
-use Rattle.answers.specs.Answers.{answerNumber, unread}
+use Rattle.read.specs.Records.{Sector, itsAnswer, itsPlace, bySector, areaOf}
+use Rattle.answers.specs.Answers.{answerNumber, unanswered, recordAt}
 use Rattle.read.specs.Outcomes.{reading, readTests, readAnswer, readArea}
-use Rattle.pick.specs.Picks.{recordAt}
 use Rattle.read.specs.declared.Reading.{Reading}
+use Rattle.answers.specs.declared.Answered.{Answered}
 use Rattle.answers.specs.declared.Record.{Record}
 use Rattle.read.proofs.Passing.{modest}
 use Rattle.read.proofs.Recording.{length-sector}
@@ -36,7 +37,7 @@ use Rattle.walk.specs.Events.{blocks}
 use Rattle.walk.specs.Outcomes.{met}
 use Rattle.promises.specs.RoundTrip.{Legible, ReadsBack, ReadsBackAsWritten}
 use Rattle.promises.specs.Sectors.{sectorIn}
-use Rattle.promises.proofs.formatting.Trip.{OnePlace, one-place, round-trip, natural}
+use Rattle.promises.proofs.formatting.Trip.{OnePlace, one-place, round-trip, natural, natural-position}
 
 -- ---- the layouts
 
@@ -68,9 +69,14 @@ reading-passes layout cylinder side image area t some short e =
 
 module _ (t : Track) (image : List ℕ) (s : ℕ) (low : 1 ≤ s) (high : s ≤ t .layout .sectors) where
   -- Its record,
+  said-read : {A : Type 0} (f : Sector → A) (d : A) → t .layout .sectors ≤ mostSectors
+      → getD (bySector t (cell image) (8 * length image) f (met t image)) (s - 1) d ≡ f (sectorIn t image s)
+  unfolding bySector
+  said-read f d few = map-at (λ x. f (sectorIn t image x)) d mostSectors 1 s low (omega arith)
+
   pub record-read : t .layout .sectors ≤ mostSectors → recordAt (reading t image .records) s ≡ sectorIn t image s .known
-  unfolding recordsOf
-  record-read few = map-at (λ x. sectorIn t image x .known) unread mostSectors 1 s low (omega arith)
+  record-read few =
+      ap₂ (λ (a : Answered) (p : ℕ). record { answer = a .answer; place = p }) (said-read itsAnswer unanswered few) (said-read itsPlace 0 few)
 
   -- and its slot in the area.
   pub slot-read : (area : List ℕ) → area ≡ areaOf t (cell image) (8 * length image) (met t image)
@@ -157,6 +163,11 @@ format-then-read layout cylinder side contents marks before image answer area al
           ap (λ (r : Reading). answerNumber (recordAt (r .records) s .answer)) told
           ∙ ap (λ (r : Record). answerNumber (r .answer)) (record-read t image s (h .0) (h .1) (modest layout .1))
           ∙ back-so .sectors s h .answers;
+      places = λ s h.
+          ap (λ (r : Reading). recordAt (r .records) s .place) told
+          ∙ ap (λ (r : Record). r .place) (record-read t image s (h .0) (h .1) (modest layout .1))
+          ∙ back-so .places s h
+          ∙ ap (λ (i : ℕ). 8 * blockPlace (layoutOf layout) i) (natural-position s (layoutOf layout .sectors) 1 (h .0) (omega (arith, h .1)));
       slots = λ s h. slot-read t image s (h .0) (h .1) area left ∙ back-so .sectors s h .holds;
       whole = length-read t image area left;
     }

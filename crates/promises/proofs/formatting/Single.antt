@@ -18,14 +18,14 @@ use Rattle.layouts.specs.declared.Layout.{Layout}
 use Rattle.layouts.specs.declared.Track.{Track}
 use Rattle.marks.specs.Marks.{markCells, markOf, covered}
 use Rattle.marks.specs.declared.Mark.{Mark}
-use Rattle.read.specs.Records.{sectorOf}
+use Rattle.read.specs.Records.{Sector, sectorOf}
 use Rattle.walk.specs.Events.{bads, foreigns, blocks}
 use Rattle.walk.specs.declared.Block.{Block}
 use Rattle.walk.specs.declared.Block.the-variants.{Within}
 use Rattle.walk.specs.declared.Event.{Event}
-use Rattle.promises.specs.RoundTrip.{times, acceptedFrom, wentIn}
+use Rattle.promises.specs.RoundTrip.{times, position, acceptedFrom, wentIn}
 use Rattle.promises.specs.Sectors.{ReadsSo}
-use Rattle.promises.proofs.Blocks.{so-same, written-so, alone-so}
+use Rattle.promises.proofs.Blocks.{so-same, written-so, block-placed, alone-so}
 use Rattle.promises.proofs.formatting.Rounds.{stands-at, edc-right}
 use Rattle.promises.proofs.formatting.Held.{blockCell, Stood, Held}
 
@@ -54,29 +54,29 @@ blocks-none l s i (x ∷ xs) e = go (eqb x s) e (blocks-none l s (suc i) xs)
     go false e rest = rest e
 
 module _ (t : Track) (c : ℕ → ℕ) (n : ℕ) (contents marks : List ℕ) (s : ℕ) where
-  -- These blocks of sector s are one, and it stands on the track with the sector's mark and data.
-  pub record Single (bs : List Block) : Type 0 where
-    pub position : ℕ
-    pub stood : Stood t c n position s (markOf (getD marks (s - 1) 0)) (slotIn (t .layout .size) s contents)
-    pub one : bs ≡ Within (blockCell (t .layout) position) ∷ []
+  -- These blocks of sector s are one, and it stands at a position of the track with the sector's mark and data.
+  pub record Single (at : ℕ) (bs : List Block) : Type 0 where
+    pub stood : Stood t c n at s (markOf (getD marks (s - 1) 0)) (slotIn (t .layout .size) s contents)
+    pub one : bs ≡ Within (blockCell (t .layout) at) ∷ []
 
-  -- A number that is in the list once has a single block.
+  -- A number that is in the list once has a single block, at its position.
   pub single : (order : List ℕ) (i : ℕ) → times s order ≡ 1 → Held t c n contents marks i order
-      → Single (blocks s (acceptedFrom (t .layout) i order))
-  unfolding blocks acceptedFrom times
+      → Single (i + position s order) (blocks s (acceptedFrom (t .layout) i order))
+  unfolding blocks acceptedFrom times position
   single [] i e held = absurd (omega arith)
   single (x ∷ xs) i e held = go (eqb x s) refl e (λ d. single xs (suc i) d (held .1))
     where
       go : (b : Bool) → eqb x s ≡ b → cond b (suc (times s xs)) (times s xs) ≡ 1
-          → (times s xs ≡ 1 → Single (blocks s (acceptedFrom (t .layout) (suc i) xs)))
-          → Single (cond b (Within (blockCell (t .layout) i) ∷ blocks s (acceptedFrom (t .layout) (suc i) xs)) (blocks s (acceptedFrom (t .layout) (suc i) xs)))
+          → (times s xs ≡ 1 → Single (suc i + position s xs) (blocks s (acceptedFrom (t .layout) (suc i) xs)))
+          → Single (i + cond b 0 (suc (position s xs)))
+          (cond b (Within (blockCell (t .layout) i) ∷ blocks s (acceptedFrom (t .layout) (suc i) xs)) (blocks s (acceptedFrom (t .layout) (suc i) xs)))
       go true q e rest =
-          record {
-            position = i;
+          let here : i + 0 ≡ i = omega arith in
+          rw here record {
             stood = rw (eqb-true x s q) at (held .0);
             one = ap {B = List Block} (λ bs. Within (blockCell (t .layout) i) ∷ bs) (blocks-none (t .layout) s (suc i) xs (omega arith));
           }
-      go false q e rest = rest e
+      go false q e rest = let later : i + suc (position s xs) ≡ suc i + position s xs = omega arith in rw later (rest e)
 
 -- ---- one block
 
@@ -95,17 +95,23 @@ data-of mode m c a k xs h e = sym (data-take c a k 2) ∙ ap (take k) e ∙ take
 -- ---- one sector
 
 -- A sector with a single block reads as what went in.
-pub single-so : (t : Track) (c : ℕ → ℕ) (n : ℕ) (contents marks : List ℕ) (s : ℕ) (es : List Event) → s ≤ t .layout .sectors
-    → Single t c n contents marks s (blocks s es) → length (slotIn (t .layout .size) s contents) ≡ t .layout .size
+pub single-so : (t : Track) (c : ℕ → ℕ) (n : ℕ) (contents marks : List ℕ) (s at : ℕ) (es : List Event) → s ≤ t .layout .sectors
+    → Single t c n contents marks s at (blocks s es) → length (slotIn (t .layout .size) s contents) ≡ t .layout .size
     → ReadsSo (sectorOf t c n es s) (wentIn t contents marks s)
-single-so t c n contents marks s es high here long =
+single-so t c n contents marks s at es high here long =
     let l = t .layout in
     let stood = here .stood in
     let room = stood .room in
     let m = markOf (getD marks (s - 1) 0) in
-    let place = blockCell l (here .position) in
+    let place = blockCell l at in
     so-same (alone-so t c n es s _ high (here .one))
     (written-so t c n place (getD marks (s - 1) 0) (slotIn (l .size) s contents)
     (stands-at (l .mode) c n m place (omega arith) (stood .marked))
     (data-of (l .mode) m c (place + markCells (l .mode)) (l .size) (slotIn (l .size) s contents) long (stood .holds))
     (edc-right (l .mode) c m (place + markCells (l .mode)) (l .size + 2) (slotIn (l .size) s contents) (stood .holds)))
+
+-- Its place is that of the block.
+pub single-placed : (t : Track) (c : ℕ → ℕ) (n : ℕ) (contents marks : List ℕ) (s at : ℕ) (es : List Event) → s ≤ t .layout .sectors
+    → Single t c n contents marks s at (blocks s es) → sectorOf t c n es s .known .place ≡ blockCell (t .layout) at
+single-placed t c n contents marks s at es high here =
+    ap (λ (x : Sector). x .known .place) (alone-so t c n es s _ high (here .one)) ∙ block-placed t c n (blockCell (t .layout) at)

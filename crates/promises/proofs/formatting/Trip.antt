@@ -1,10 +1,10 @@
 -- The round trip, for any layout whose constants serve and any order of its sectors: what the walk meets, and how the sectors read. Then natural
 -- order.
-use mathlib.Core.Path.{_≡_, refl}
+use mathlib.Core.Path.{_≡_, refl, ap, _∙_}
 use mathlib.Core.Bool.{cond}
 use mathlib.Core.List.{List, [], _∷_}
 use mathlib.Core.Logic.{⊎-elim}
-use Prim.Native.Nat.{ℕ, zero, suc, _+_, _*_, _<_, _≤_}
+use Prim.Native.Nat.{ℕ, zero, suc, _+_, _-_, _*_, _<_, _≤_}
 use native.Mathlib.Nat.{le-mul-of-pos-right, eq-or-lt-of-le}
 use native.Mathlib.Omega.{arith}
 use lib.Dec.{eqb}
@@ -22,9 +22,9 @@ use Rattle.walk.specs.Outcomes.{met}
 use Rattle.walk.specs.Walk.{events}
 use Rattle.walk.specs.declared.Block.{Block}
 use Rattle.walk.specs.declared.Block.the-variants.{Within}
-use Rattle.promises.specs.RoundTrip.{Legible, times, Ordered, acceptedFrom, wentIn, ReadsBack}
+use Rattle.promises.specs.RoundTrip.{Legible, times, position, Ordered, acceptedFrom, wentIn, ReadsBack}
 use Rattle.promises.specs.Sectors.{sectorIn, ReadsSo}
-use Rattle.promises.proofs.formatting.Single.{none-bad, none-foreign, Single, single, single-so}
+use Rattle.promises.proofs.formatting.Single.{none-bad, none-foreign, Single, single, single-so, single-placed}
 use Rattle.promises.proofs.formatting.Rounds.{walk-held}
 use Rattle.promises.proofs.formatting.Held.{fields-sum, Held, track-held}
 
@@ -56,21 +56,34 @@ module _ (t : Track) (fit : Legible (t .layout)) (hc : Byte (t .cylinder)) (hs :
         (enough order (ordered .numbered)) held
 
     -- Each sector has one block, and nothing else.
-    one-block : (s : ℕ) → Numbered (t .layout) s → Single t (cell im) (8 * length im) contents marks s (blocks s (met t im))
+    one-block : (s : ℕ) → Numbered (t .layout) s → Single t (cell im) (8 * length im) contents marks s (0 + position s order) (blocks s (met t im))
     one-block s h = rw meets (single t (cell im) (8 * length im) contents marks s order 0 (ordered .once s h) held)
 
     pub one-place : (s : ℕ) → Numbered (t .layout) s → OnePlace (blocks s (met t im))
-    one-place s h = let b = one-block s h in record { byte = blockPlace (t .layout) (b .position); alone = b .one }
+    one-place s h = let b = one-block s h in record { byte = blockPlace (t .layout) (0 + position s order); alone = b .one }
 
     sectors : (s : ℕ) → Numbered (t .layout) s → ReadsSo (sectorIn t im s) (wentIn t contents marks s)
     sectors s h =
-        single-so t (cell im) (8 * length im) contents marks s (met t im) (h .1)
+        single-so t (cell im) (8 * length im) contents marks s (0 + position s order) (met t im) (h .1)
         (one-block s h)
         (length-slot (t .layout .size) contents s (slotted (t .layout .sectors) (t .layout .size) contents long s (h .0) (h .1)))
 
+    places : (s : ℕ) → Numbered (t .layout) s → sectorIn t im s .known .place ≡ 8 * blockPlace (t .layout) (position s order)
+    places s h =
+        let from-zero : 0 + position s order ≡ position s order = omega arith in
+        single-placed t (cell im) (8 * length im) contents marks s (0 + position s order) (met t im) (h .1) (one-block s h)
+        ∙ ap (λ (i : ℕ). 8 * blockPlace (t .layout) i) from-zero
+
     -- A formatted track reads back.
     pub round-trip : ReadsBack t contents marks order im
-    round-trip = record { meets = meets; bad = rw meets (none-bad (t .layout) 0 order); foreign = rw meets (none-foreign (t .layout) 0 order); sectors = sectors }
+    round-trip =
+        record {
+          meets = meets;
+          bad = rw meets (none-bad (t .layout) 0 order);
+          foreign = rw meets (none-foreign (t .layout) 0 order);
+          sectors = sectors;
+          places = places;
+        }
 
 -- ---- natural order
 
@@ -96,3 +109,16 @@ times-once s (suc k) a h u =
 -- Natural order holds each number once.
 pub natural : (l : Layout) → Ordered l (numbers (l .sectors) 1)
 natural l = record { numbered = numbered l; once = λ s h. times-once s (l .sectors) 1 (h .0) (omega arith) }
+
+-- In it a number stands where it is counted.
+pub natural-position : (s k a : ℕ) → a ≤ s → s < a + k → position s (numbers k a) ≡ s - a
+unfolding position
+natural-position s zero a h u = absurd (omega arith)
+natural-position s (suc k) a h u =
+    ⊎-elim (λ (e : a ≡ s). first e) (λ (e : a < s). later e (natural-position s k (suc a) (omega arith) (omega arith))) (eq-or-lt-of-le h)
+  where
+    first : a ≡ s → cond (eqb a s) 0 (suc (position s (numbers k (suc a)))) ≡ s - a
+    first e = rw (eq-eqb a s e) (omega arith)
+
+    later : a < s → position s (numbers k (suc a)) ≡ s - suc a → cond (eqb a s) 0 (suc (position s (numbers k (suc a)))) ≡ s - a
+    later e rest = rw (ne-eqb a s (λ q. omega arith)) (omega arith)

@@ -13,7 +13,7 @@ use Rattle.layouts.specs.declared.Track.{Track}
 use Rattle.marks.specs.Marks.{markCells, stands}
 use Rattle.marks.specs.declared.Mark.{Mark}
 use Rattle.marks.specs.declared.Mark.the-variants as marks
-use Rattle.read.specs.Records.{answering, proved, blockAnswer, blockBytes, identifierRecord, recordFor, sectorOf}
+use Rattle.read.specs.Records.{Sector, answering, proved, blockAnswer, blockBytes, identifierRecord, recordFor, sectorOf}
 use Rattle.answers.specs.declared.Answer.{Answer}
 use Rattle.search.proofs.Searching.{searchable}
 use Rattle.walk.specs.Events.{bads, foreigns, blocks}
@@ -25,7 +25,7 @@ use Rattle.walk.specs.declared.Event.{Event}
 use Rattle.walk.specs.declared.Event.the-variants.{Bad, Foreign, Accepted}
 use Rattle.walk.proofs.Ways.{mark-some}
 use Rattle.promises.specs.Sectors.{Back, ReadsSo}
-use Rattle.promises.proofs.Blocks.{so-same, alone-so}
+use Rattle.promises.proofs.Blocks.{so-same, block-placed, alone-so}
 use Rattle.promises.proofs.rewriting.Rounds.{bytes-same}
 use Rattle.promises.proofs.rewriting.Claims.{Claims, claims-later, blocks-claims, apart}
 use Rattle.promises.proofs.rewriting.Rewritten.{Rewritten, before-last, mark-before, mark-after}
@@ -76,8 +76,8 @@ module _ (t : Track) (c d : ℕ → ℕ) (n : ℕ) where
   identifier-kept Missing K = refl
   identifier-kept (Beyond p) K = refl
   identifier-kept (Within p) K =
-      ap (λ (a : Answer). answering (t .layout .size) a (blockBytes t d n p)) (answer-kept K)
-      ∙ ap (λ (xs : List ℕ). answering (t .layout .size) (blockAnswer t c n p) xs) (data-kept K)
+      ap (λ (a : Answer). answering (t .layout .size) a p (blockBytes t d n p)) (answer-kept K)
+      ∙ ap (λ (xs : List ℕ). answering (t .layout .size) (blockAnswer t c n p) p xs) (data-kept K)
 
   -- A sector all of whose blocks are kept is as before.
   abbrev KeepsAll : List Block → Type 0
@@ -139,3 +139,8 @@ module _ (t : Track) (c d : ℕ → ℕ) (n m : ℕ) (R : Rewritten (t .layout) 
   -- So it reads as that block does.
   pub own-so : s ≤ t .layout .sectors → (back : Back) → ReadsSo (identifierRecord t d n (Within m)) back → ReadsSo (sectorOf t d n (events t d n) s) back
   own-so high back so = so-same (alone-so t d n (events t d n) s (Within m) high found-again) so
+
+  -- and has its place.
+  pub own-place : s ≤ t .layout .sectors → sectorOf t d n (events t d n) s .known .place ≡ m
+  own-place high =
+      ap (λ (x : Sector). x .known .place) (alone-so t d n (events t d n) s (Within m) high found-again) ∙ block-placed t d n m

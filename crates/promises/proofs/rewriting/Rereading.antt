@@ -14,7 +14,7 @@ use Rattle.layouts.specs.Refusals.{readingTests}
 use Rattle.layouts.specs.Tracks.{trackOf}
 use Rattle.layouts.specs.declared.Layout.{Layout}
 use Rattle.layouts.specs.declared.Track.{Track}
-use Rattle.read.specs.Records.{Sector, recordsOf, areaOf}
+use Rattle.read.specs.Records.{Sector, itsAnswer, itsPlace, bySector, areaOf}
 use Rattle.read.specs.Outcomes.{readTests, readAnswer, readArea, Reads}
 use Rattle.read.specs.declared.Reading.{Reading}
 use Rattle.read.proofs.Recording.{length-sector}
@@ -51,13 +51,12 @@ module _ (layout cylinder side sector : ℕ) (image now : List ℕ) (m : ℕ) (S
   passes-now : refusal (readTests layout cylinder side (length now) (l .«area_bytes»)) ≡ passed
   passes-now = rw long passes
 
-  -- All but one of the records, and of the slots, are as they were.
-  records-but : recordsOf t (cell now) (8 * length now) (met t now)
-      ≡ set (recordsOf t (cell image) (8 * length image) (met t image)) (sector - 1) (sectorIn t now sector .known)
-  unfolding recordsOf
-  records-but =
-      map-set (λ x. sectorIn t image x .known) (λ x. sectorIn t now x .known) sector
-      (λ x o. ap (λ (y : Sector). y .known) (alike x (λ q. o (sym q)))) mostSectors 1 (S .low)
+  -- What is said of all but one sector, and all but one of the slots, are as they were.
+  said-but : {A : Type 0} (f : Sector → A) → bySector t (cell now) (8 * length now) f (met t now)
+      ≡ set (bySector t (cell image) (8 * length image) f (met t image)) (sector - 1) (f (sectorIn t now sector))
+  unfolding bySector
+  said-but f =
+      map-set (λ x. f (sectorIn t image x)) (λ x. f (sectorIn t now x)) sector (λ x o. ap f (alike x (λ q. o (sym q)))) mostSectors 1 (S .low)
 
   area-but : areaOf t (cell now) (8 * length now) (met t now)
       ≡ sets (areaOf t (cell image) (8 * length image) (met t image)) ((sector - 1) * l .size) (sectorIn t now sector .slot)
@@ -74,4 +73,4 @@ module _ (layout cylinder side sector : ℕ) (image now : List ℕ) (m : ℕ) (S
       × (after ≡ sets area ((sector - 1) * l .size) (sectorIn t now sector .slot))
   unfolding readAnswer readArea by
   read-so before answer area after r q =
-      (q .answers ∙ rw (r .answers, passes, passes-now, records-but, bad, foreign), q .leaves ∙ rw (r .leaves, passes, passes-now) area-but)
+      (q .answers ∙ rw (r .answers, passes, passes-now, said-but itsAnswer, said-but itsPlace, bad, foreign), q .leaves ∙ rw (r .leaves, passes, passes-now) area-but)

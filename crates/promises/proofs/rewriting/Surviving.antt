@@ -1,5 +1,5 @@
 -- How every cut of an accepted rewrite reads: every other sector as before, and the sector itself by the number of stores that were made.
-use mathlib.Core.Path.{_≡_, ap}
+use mathlib.Core.Path.{_≡_, sym, ap, _∙_}
 use mathlib.Core.Bool.{true}
 use mathlib.Core.List.{List}
 use Prim.Native.Nat.{ℕ, zero, suc, _*_, _<_, _≤_}
@@ -24,7 +24,7 @@ use Rattle.promises.specs.Sectors.{sectorIn, Back, readsBack, underWay, 
 use Rattle.promises.proofs.Blocks.{written-so, open-so}
 use Rattle.promises.proofs.rewriting.Claims.{Claims}
 use Rattle.promises.proofs.rewriting.Rewritten.{Rewritten}
-use Rattle.promises.proofs.rewriting.Answers.{bads-kept, foreigns-kept, other-sector, own-so}
+use Rattle.promises.proofs.rewriting.Answers.{bads-kept, foreigns-kept, other-sector, own-so, own-place}
 use Rattle.promises.proofs.rewriting.Cutting.{length-cut, cut-none}
 use Rattle.promises.proofs.rewriting.Fitted.{cut-open, cut-closed}
 use Rattle.promises.proofs.rewriting.Rereading.{read-so}
@@ -95,6 +95,12 @@ module _ (layout cylinder side sector mark : ℕ) (contents image : List ℕ) (m
     own : (back : Back) → ReadsSo (identifierRecord t (cell (now j)) n (Within m)) back → ReadsSo (sectorIn t (now j) sector) back
     own back so = rw same-length (own-so t (cell image) (cell (now j)) n m part sector (S .alone) (S .numbered) back so)
 
+    -- Its place is that of the block, as in the first image.
+    own-placed : sectorIn t (now j) sector .known .place ≡ sectorIn t image sector .known .place
+    own-placed =
+        rw same-length (own-place t (cell image) (cell (now j)) n m part sector (S .alone) (S .numbered))
+        ∙ sym (own-place t (cell image) (cell image) n m first sector (S .alone) (S .numbered))
+
     pub survives : Bytes contents
         → Survives layout cylinder side sector mark contents image (record { layout = layout; place = m; made = 0 }) j (now j)
     survives small =
@@ -108,5 +114,6 @@ module _ (layout cylinder side sector mark : ℕ) (contents image : List ℕ) (m
               (written-so t (cell (now j)) n m mark contents (closed j e)
               (holds-new l image m (markOf mark) contents whole within (S .boundary) j e small)
               (edc-new l image m (markOf mark) contents whole within (S .boundary) j e small));
+          placed = own-placed;
           reads = read-so layout cylinder side sector image (now j) m S same-length others bad foreign;
         }

@@ -5,9 +5,10 @@ mod measure;
 use harness::reference;
 use harness::reference::coding::{code, Mode};
 use harness::reference::dump::Reader;
+use harness::reference::records::{at, nowhere};
 use harness::reference::rewrite::{Request, Step};
 use harness::rng::Rng;
-use harness::station::{self, Pass, Reading};
+use harness::station::{self, Pass, Reading, Record};
 use harness::tracks::damage::{false_beginnings, shifted};
 use harness::tracks::worn::LONGEST;
 use harness::tracks::{Track, EACH, FM, MFM};
@@ -141,17 +142,18 @@ fn read_image(name: &str, track: Track, image: &[u8], with_time: bool) {
 }
 
 /// A pick as the header declares it, since for so short a call a wrapper would count: layout, sector, both passes, each an
-/// area with its length and answers, and what is taken.
+/// area with its length and records, what is taken, and the record that is handed on.
 type Pick = unsafe extern "C" fn(
     u32,
     u32,
     *const u8,
     usize,
-    *const [u8; 26],
+    *const [Record; 26],
     *const u8,
     usize,
-    *const [u8; 26],
+    *const [Record; 26],
     *mut [u32; 3],
+    *mut Record,
 ) -> u8;
 
 /// The reference's, called in the same way.
@@ -161,15 +163,16 @@ unsafe extern "C" fn reference_pick(
     sector: u32,
     first: *const u8,
     first_length: usize,
-    first_answers: *const [u8; 26],
+    first_records: *const [Record; 26],
     second: *const u8,
     second_length: usize,
-    second_answers: *const [u8; 26],
+    second_records: *const [Record; 26],
     taken: *mut [u32; 3],
+    record: *mut Record,
 ) -> u8 {
-    let first = Pass { area: from_raw_parts(first, first_length), answers: &*first_answers };
-    let second = Pass { area: from_raw_parts(second, second_length), answers: &*second_answers };
-    reference::pick::taken(layout, sector, first, second, &mut *taken)
+    let first = Pass { area: from_raw_parts(first, first_length), records: &*first_records };
+    let second = Pass { area: from_raw_parts(second, second_length), records: &*second_records };
+    reference::pick::taken(layout, sector, first, second, &mut *taken, &mut *record)
 }
 
 unsafe extern "C" fn no_pick(
@@ -177,11 +180,12 @@ unsafe extern "C" fn no_pick(
     _: u32,
     _: *const u8,
     _: usize,
-    _: *const [u8; 26],
+    _: *const [Record; 26],
     _: *const u8,
     _: usize,
-    _: *const [u8; 26],
+    _: *const [Record; 26],
     _: *mut [u32; 3],
+    _: *mut Record,
 ) -> u8 {
     0
 }
@@ -190,23 +194,26 @@ fn pick(with_time: bool) {
     let rng = &mut Rng::new(6);
     let (first, second) = (rng.bytes(26 * 256), rng.bytes(26 * 256));
     // the first pass, the second and neither by turns
-    let answers = |turns: [u8; 3]| -> [u8; 26] { std::array::from_fn(|sector| turns[sector % 3]) };
-    let (first_answers, second_answers) = (answers([1, 26, 26]), answers([2, 2, 21]));
+    let records = |turns: [Record; 3]| -> [Record; 26] { std::array::from_fn(|sector| turns[sector % 3]) };
+    let first_records = records([at(1, 3_232), at(26, 9_184), at(26, 15_136)]);
+    let second_records = records([at(2, 3_233), at(2, 9_185), nowhere(21)]);
     let drive = |f: Pick| {
         for sector in 1..=26 {
-            let mut taken = [0; 3];
-            // SAFETY: each pointer and length are those of one live slice or array; `taken` alone is written.
+            let (mut taken, mut record) = ([0; 3], Record::default());
+            // SAFETY: each pointer and length are those of one live slice, array or record; `taken` and `record` alone are
+            // written.
             hidden(unsafe {
                 f(
                     1,
                     sector,
                     first.as_ptr(),
                     first.len(),
-                    &first_answers,
+                    &first_records,
                     second.as_ptr(),
                     second.len(),
-                    &second_answers,
+                    &second_records,
                     &mut taken,
+                    &mut record,
                 )
             });
         }

@@ -3,6 +3,7 @@ use crate::disks::{self, Disk, Written};
 use harness::reference::coding::Mode;
 use harness::reference::layouts::of_track;
 use harness::reference::marks;
+use harness::reference::records::at;
 use harness::station::{self, Reading};
 
 /// The longest image that the library reads.
@@ -43,7 +44,7 @@ pub fn flat(disk: &Disk, written: &[Written], theirs: &[u8]) -> Count {
 /// What comparing the peer's tracks gave.
 #[derive(Default)]
 pub struct Tracks {
-    /// Sectors of tracks that the library addresses: read with our mark and bytes.
+    /// Sectors of tracks that the library addresses: read with our mark and bytes, at the place of their mark.
     pub read: Count,
     /// Stretches from the (00)-bytes before the identifier to the end of the data EDC, cell for cell.
     pub stretches: Count,
@@ -81,10 +82,12 @@ fn read(ours: &Written, cells: &[u8], count: &mut Count) {
     let mut area = vec![0; layout.area_bytes()];
     let mut reading = Reading::default();
     let refusal = station::read(track.layout, track.cylinder, track.side, image, &mut area, &mut reading);
+    let found = places(cells, track.mode());
     for sector in 0..layout.sectors {
         let slot = sector * layout.size..(sector + 1) * layout.size;
         let answer = if ours.marks[sector] == marks::DATA { 1 } else { 2 };
-        let is_right = refusal == 0 && reading.answers[sector] == answer && reading.counts == [0, 0];
+        let record = only(&found, sector as u8 + 1).map(|theirs| at(answer, theirs.block));
+        let is_right = refusal == 0 && record == Some(reading.records[sector]) && reading.counts == [0, 0];
         count.add(is_right && area[slot.clone()] == ours.data[slot]);
     }
 }
@@ -95,11 +98,7 @@ fn stretches(ours: &Written, cells: &[u8], is_same: bool, sum: &mut Tracks) {
     for sector in 1..=ours.track.layout().sectors {
         let (identifier, block) = ours.track.places(sector);
         let place = Place { sector: sector as u8, identifier: 8 * identifier, block: 8 * block };
-        let mut named = found.iter().filter(|theirs| theirs.sector == place.sector);
-        let theirs = match (named.next(), named.next()) {
-            (Some(theirs), None) => theirs.stretch(cells, ours, is_same),
-            _ => None, // not there, or there twice: equal to nothing
-        };
+        let theirs = only(&found, place.sector).and_then(|theirs| theirs.stretch(cells, ours, is_same));
         let is_equal = theirs.is_some() && theirs == place.stretch(&own, ours, is_same);
         let count = if is_same { &mut sum.stretches } else { &mut sum.blocks };
         count.add(is_equal);
@@ -130,6 +129,12 @@ impl Place {
         let end = self.block + mark_cells(mode) + 16 * (ours.track.layout().size + 2);
         cells.get(mark.checked_sub(16 * zeros)?..end)
     }
+}
+
+/// The sector of a number, which is equal to nothing where it is not there, or there twice.
+fn only(found: &[Place], sector: u8) -> Option<&Place> {
+    let mut named = found.iter().filter(|place| place.sector == sector);
+    named.next().filter(|_| named.next().is_none())
 }
 
 /// The sectors of a track by their marks alone: each identifier mark with the data or control mark after it.

@@ -109,7 +109,7 @@ fn cut_and_begun_anew([rewrites, reads]: &mut [Tally; 2], rng: &mut Rng, call: &
         }
     });
     read::compare(reads, rng, &read::Call::new(call.track, left.clone()));
-    let expected = call.expected(&Outcome::of_image(call.track, &call.image), cut, all);
+    let expected = call.expected(&call.before(plan), cut, all);
     assert_eq!(Outcome::of_image(call.track, &left), expected, "read after {cut} of {all} stores: {call:?}");
     let other = call.other(rng);
     let (uncut, anew) = (other.done(), rewrite::Call { image: left, ..other }.done());
@@ -126,7 +126,8 @@ fn two_passes(rng: &mut Rng) -> Vec<Tally> {
         let call = read::Call::new(track, worn::wear(rng, &image));
         read::compare(&mut tallies[0], rng, &call)
     };
-    let [first, second] = [pass(), pass()].map(|Outcome { area, reading, .. }| pick::Pass { area, reading });
+    let [first, second] =
+        [pass(), pass()].map(|Outcome { area, reading, .. }| pick::Pass { area, records: reading.records });
     let mut call = pick::Call { layout: track.layout, sector: 0, first, second };
     for sector in 1..=track.layout().sectors {
         call.sector = sector as u32;

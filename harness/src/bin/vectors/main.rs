@@ -1,10 +1,11 @@
 //! Writes the kept vectors and the samples: `vectors FOLDER` fills FOLDER/vectors and FOLDER/samples. What the program
-//! has to print for a vector comes from the reference, and the literal reader has to agree.
+//! has to print for a vector comes from the reference, and the literal reader has to agree; so do the records, which the
+//! program does not print in full.
 mod kept;
 mod samples;
 
-use harness::reference::dump::{dump, dump_by};
-use harness::reference::plain;
+use harness::reference::dump::{dump, dump_by, records_by};
+use harness::reference::{plain, read};
 use std::error::Error;
 use std::fs;
 use std::path::Path;
@@ -24,6 +25,7 @@ fn main() -> Result<(), Box<dyn Error>> {
         let place = folder.join("vectors").join(format!("{number:04}"));
         fs::write(place.with_extension("in"), &input)?;
         fs::write(place.with_extension("out"), printed(&input))?;
+        fs::write(place.with_extension("records"), records(&input))?;
         index += &format!("{number:04} {shows}\n");
     }
     fs::write(folder.join("vectors/INDEX"), &index)?;
@@ -41,4 +43,10 @@ fn printed(input: &[u8]) -> String {
     let printed = dump(input);
     assert_eq!(printed, dump_by(plain::read, input), "the reference and the literal reader");
     printed
+}
+
+fn records(input: &[u8]) -> String {
+    let records = records_by(plain::read, input);
+    assert_eq!(records, records_by(read::read, input), "the literal reader and the reference");
+    records
 }

@@ -1,5 +1,6 @@
 //! Which identifiers are counted, and which are accepted.
 use super::super::sketch::*;
+use super::Mark::First;
 use super::{in_both, Trap};
 use crate::reference::coding::Mode;
 
@@ -14,22 +15,25 @@ pub fn all() -> Vec<Trap> {
 fn cut_short() -> Vec<Trap> {
     let right = in_both(|start| {
         let sketch = start.blank(1).sector(1).identifier(2).without(1);
-        Trap::new("B4", "95 cells after an identifier mark: the walk ends, nothing counts", &sketch).answers(&[(1, 1)])
+        Trap::new("B4", "95 cells after an identifier mark: the walk ends, nothing counts", &sketch)
+            .answers(&[(1, 1, First)])
     });
     let bad = in_both(|start| {
         let address = start.track.address(2);
         let sketch = start.blank(1).sector(1).zeros().mark(Identifier).bytes(&address).wrong_edc();
         let shows = "95 cells after the mark of a bad identifier: it is not counted";
-        Trap::new("B4", shows, &sketch.without(1)).answers(&[(1, 1)])
+        Trap::new("B4", shows, &sketch.without(1)).answers(&[(1, 1, First)])
     });
     let enough = in_both(|start| {
         let sketch = start.sector(1).identifier(2);
-        Trap::new("B4", "96 cells: it is accepted", &sketch).answers(&[(1, 1), (2, 23)])
+        Trap::new("B4", "96 cells: it is accepted", &sketch).nowhere(2, 23).answers(&[(1, 1, First)])
     });
     let enough_bad = in_both(|start| {
         let address = start.track.address(2);
         let sketch = start.sector(1).zeros().mark(Identifier).bytes(&address).wrong_edc();
-        Trap::new("B4", "96 cells after the mark of a bad one: it is counted", &sketch).answers(&[(1, 1)]).counts(1, 0)
+        Trap::new("B4", "96 cells after the mark of a bad one: it is counted", &sketch)
+            .answers(&[(1, 1, First)])
+            .counts(1, 0)
     });
     [right, bad, enough, enough_bad].into_iter().flatten().collect()
 }
@@ -40,17 +44,17 @@ fn identifier_first() -> Vec<Trap> {
         let address = start.track.address(2);
         let sketch = start.identifier(1).gap(4).zeros().mark(Identifier).bytes(&address).wrong_edc();
         let sketch = sketch.gap(2).block(Data, 1).gap(4);
-        Trap::new("B5", "a bad identifier before the block: counted once", &sketch).answers(&[(1, 23)]).counts(1, 0)
+        Trap::new("B5", "a bad identifier before the block: counted once", &sketch).nowhere(1, 23).counts(1, 0)
     });
     let foreign = in_both(|start| {
         let sketch = start.identifier(1).gap(4).zeros().field(Identifier, &[74, 1, 2, 3]);
         let sketch = sketch.gap(2).block(Data, 1).gap(4);
         let shows = "a foreign identifier before the block: counted once";
-        Trap::new("B5", shows, &sketch).answers(&[(1, 23)]).counts(0, 1)
+        Trap::new("B5", shows, &sketch).nowhere(1, 23).counts(0, 1)
     });
     let cut = in_both(|start| {
         let sketch = start.identifier(1).gap(4).zeros().mark(Identifier).gap(5);
-        Trap::new("B5", "an identifier that is cut short: not counted", &sketch).answers(&[(1, 23)])
+        Trap::new("B5", "an identifier that is cut short: not counted", &sketch).nowhere(1, 23)
     });
     [bad, foreign, cut].into_iter().flatten().collect()
 }
@@ -69,12 +73,12 @@ fn marks_in_an_address() -> Vec<Trap> {
     let foreign = in_both(|start| {
         let sketch = address(start).edc().gap(8).sector(2);
         let shows = "an identifier mark in the address of a foreign identifier is not met";
-        Trap::new("B7", shows, &sketch).answers(&[(2, 1)]).counts(0, 1)
+        Trap::new("B7", shows, &sketch).answers(&[(2, 1, First)]).counts(0, 1)
     });
     let bad = in_both(|start| {
         let sketch = address(start).wrong_edc().gap(8).sector(2);
         let shows = "an identifier mark in the address of a bad identifier is met, here as a bad one too";
-        Trap::new("B7", shows, &sketch).answers(&[(2, 1)]).counts(2, 0)
+        Trap::new("B7", shows, &sketch).answers(&[(2, 1, First)]).counts(2, 0)
     });
     [foreign, bad].into_iter().flatten().collect()
 }
@@ -83,7 +87,9 @@ fn marks_in_an_address() -> Vec<Trap> {
 fn bad_before_foreign() -> Vec<Trap> {
     in_both(|start| {
         let sketch = start.zeros().mark(Identifier).bytes(&[74, 1, 2, 3]).wrong_edc().gap(8).sector(2);
-        Trap::new("B13", "a wrong EDC behind a foreign address: bad only", &sketch).answers(&[(2, 1)]).counts(1, 0)
+        Trap::new("B13", "a wrong EDC behind a foreign address: bad only", &sketch)
+            .answers(&[(2, 1, First)])
+            .counts(1, 0)
     })
 }
 
@@ -109,7 +115,7 @@ fn whole_bytes() -> Vec<Trap> {
         let sketch = others.iter().fold(start, |sketch, address| sketch.zeros().field(Identifier, address).gap(4));
         let sketch = sketch.sector(26).gap(4);
         Trap::new("B14", "sector numbers 0, 27 and 255 are foreign, 26 is not", &sketch)
-            .answers(&[(26, 1)])
+            .answers(&[(26, 1, First)])
             .counts(0, 3)
     });
     [high, numbers].into_iter().flatten().collect()
@@ -128,6 +134,6 @@ fn clocks() -> Vec<Trap> {
         }
         let sketch = sketch.gap(4);
         Trap::new("clocks", "every clock cell in address and block is wrong, and none matters", &sketch)
-            .answers(&[(1, 1)])
+            .answers(&[(1, 1, First)])
     })
 }

@@ -5,7 +5,15 @@ mod searches;
 
 use super::sketch::{contents, Sketch};
 use super::{Track, FM, MFM};
+use crate::reference::records::{at, nowhere};
 use crate::station::Reading;
+
+/// One of the data, control and open marks of a track.
+#[derive(Clone, Copy)]
+enum Mark {
+    First,
+    Second,
+}
 
 /// A track with its outcome.
 pub struct Trap {
@@ -16,6 +24,8 @@ pub struct Trap {
     pub reading: Reading,
     /// The slots of all sectors.
     pub area: Vec<u8>,
+    /// Where the data, control and open marks begin.
+    blocks: Vec<usize>,
 }
 
 /// All of them.
@@ -29,15 +39,22 @@ impl Trap {
         let track = sketch.track;
         let layout = track.layout();
         let mut reading = Reading::default();
-        reading.answers[..layout.sectors].fill(21);
+        reading.records[..layout.sectors].fill(nowhere(21));
         let (shows, area) = (shows.to_string(), vec![0; layout.area_bytes()]);
-        Trap { name, shows, track, image: sketch.image(), reading, area }
+        Trap { name, shows, track, image: sketch.image(), reading, area, blocks: sketch.blocks.clone() }
     }
 
-    /// Sector numbers with their answers. Where that is 1 or 2, the slot holds the sector's own contents.
-    fn answers(mut self, answers: &[(u8, u8)]) -> Trap {
-        for &(sector, answer) in answers {
-            self.reading.answers[usize::from(sector) - 1] = answer;
+    /// A sector for which no data, control or open mark was found, or more than one identifier.
+    fn nowhere(mut self, sector: u8, answer: u32) -> Trap {
+        self.reading.records[usize::from(sector) - 1] = nowhere(answer);
+        self
+    }
+
+    /// Sectors with their answers and the track's data, control or open mark that is theirs: its first, its second.
+    /// Where the answer is 1 or 2, the slot holds the sector's own contents.
+    fn answers(mut self, answers: &[(u8, u32, Mark)]) -> Trap {
+        for &(sector, answer, mark) in answers {
+            self.reading.records[usize::from(sector) - 1] = at(answer, self.blocks[mark as usize]);
             if answer <= 2 {
                 let bytes = contents(self.track, sector);
                 self = self.holds(sector, &bytes);

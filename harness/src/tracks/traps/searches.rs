@@ -1,5 +1,6 @@
 //! What is a mark, where it may begin, and from where on it is looked for.
 use super::super::sketch::*;
+use super::Mark::{First, Second};
 use super::{in_both, Trap, FM, MFM};
 use crate::reference::coding::Mode;
 
@@ -24,10 +25,10 @@ fn counted_a1() -> Vec<Trap> {
         sketch.octets(&a1.repeat(count - 3)).field(Data, &contents(MFM, 1)).gap(4)
     };
     vec![
-        Trap::new("A3", "one A1* before FE is no mark", &fewer(1)).answers(&[(2, 1)]),
-        Trap::new("A3", "two A1* before FE are no mark", &fewer(2)).answers(&[(2, 1)]),
-        Trap::new("A3", "four A1* hold one mark, of the last three", &more(4)).answers(&[(1, 1)]),
-        Trap::new("A3", "five A1* hold one mark, of the last three", &more(5)).answers(&[(1, 1)]),
+        Trap::new("A3", "one A1* before FE is no mark", &fewer(1)).answers(&[(2, 1, Second)]),
+        Trap::new("A3", "two A1* before FE are no mark", &fewer(2)).answers(&[(2, 1, Second)]),
+        Trap::new("A3", "four A1* hold one mark, of the last three", &more(4)).answers(&[(1, 1, First)]),
+        Trap::new("A3", "five A1* hold one mark, of the last three", &more(5)).answers(&[(1, 1, First)]),
     ]
 }
 
@@ -35,7 +36,8 @@ fn counted_a1() -> Vec<Trap> {
 fn index_mark() -> Vec<Trap> {
     in_both(|start| {
         let sketch = start.identifier(1).gap(2).mark(Index).gap(2).block(Data, 1).gap(4);
-        Trap::new("A4", "an index mark between address and data does not stop the search", &sketch).answers(&[(1, 1)])
+        Trap::new("A4", "an index mark between address and data does not stop the search", &sketch)
+            .answers(&[(1, 1, First)])
     })
 }
 
@@ -57,7 +59,7 @@ fn inside_a_mark() -> Vec<Trap> {
         let address = start.track.address(1);
         let sketch = start.zeros().mark(Identifier).field(Identifier, &address).gap(11).block(Data, 1).gap(4);
         let shows = "an identifier mark right behind the mark of a bad one is met";
-        Trap::new("B1", shows, &sketch).answers(&[(1, 1)]).counts(1, 0)
+        Trap::new("B1", shows, &sketch).answers(&[(1, 1, First)]).counts(1, 0)
     });
     [inside, next].into_iter().flatten().collect()
 }
@@ -75,17 +77,17 @@ fn distances() -> Vec<Trap> {
     let at_once = in_both(|start| {
         let bytes = contents(start.track, 1);
         let sketch = start.identifier(1).field(Data, &bytes).gap(4);
-        Trap::new("B2", "a data mark at distance 0 is found", &sketch).answers(&[(1, 1)])
+        Trap::new("B2", "a data mark at distance 0 is found", &sketch).answers(&[(1, 1, First)])
     });
     let last = in_both(|start| {
         let (window, gap) = to_the_window(&start);
         let sketch = start.identifier(1).gap(gap).block(Control, 1).gap(4);
-        Trap::new("B2", &format!("a control mark at distance {window} is found"), &sketch).answers(&[(1, 2)])
+        Trap::new("B2", &format!("a control mark at distance {window} is found"), &sketch).answers(&[(1, 2, First)])
     });
     let past = in_both(|start| {
         let (window, gap) = to_the_window(&start);
         let sketch = start.identifier(1).blank(1).gap(gap).block(Data, 1).gap(4);
-        Trap::new("B2", &format!("a data mark at distance {} is not", window + 1), &sketch).answers(&[(1, 23)])
+        Trap::new("B2", &format!("a data mark at distance {} is not", window + 1), &sketch).nowhere(1, 23)
     });
     [at_once, last, past].into_iter().flatten().collect()
 }
@@ -95,15 +97,15 @@ fn cut_marks() -> Vec<Trap> {
     let short = in_both(|start| {
         let sketch = start.blank(1).identifier(1).gap(11).zeros().mark(Control).without(1);
         let shows = "a control mark whose last cell, a 0, is missing is none";
-        Trap::new("B3", shows, &sketch).answers(&[(1, 23)])
+        Trap::new("B3", shows, &sketch).nowhere(1, 23)
     });
     let whole = in_both(|start| {
         let sketch = start.identifier(1).gap(11).zeros().mark(Data);
-        Trap::new("B3", "a data mark that ends the image is one", &sketch).answers(&[(1, 24)])
+        Trap::new("B3", "a data mark that ends the image is one", &sketch).answers(&[(1, 24, First)])
     });
     let identifier = in_both(|start| {
         let sketch = start.blank(1).sector(1).zeros().mark(Identifier).without(1);
-        Trap::new("B3", "a cut identifier mark ends the walk and is not counted", &sketch).answers(&[(1, 1)])
+        Trap::new("B3", "a cut identifier mark ends the walk and is not counted", &sketch).answers(&[(1, 1, First)])
     });
     [short, whole, identifier].into_iter().flatten().collect()
 }
@@ -122,7 +124,7 @@ fn out_of_an_address() -> Vec<Trap> {
         let (sector, sketch) = identified(start);
         let bytes = contents(sketch.track, sector);
         let sketch = sketch.clone().overlapping(overlap(&sketch), Data).bytes(&bytes).edc().gap(4);
-        Trap::new("B6", "a data mark that begins in the address EDC is not seen", &sketch).answers(&[(sector, 23)])
+        Trap::new("B6", "a data mark that begins in the address EDC is not seen", &sketch).nowhere(sector, 23)
     });
     let identifier = in_both(|start| {
         let (sector, sketch) = identified(start);
@@ -130,7 +132,7 @@ fn out_of_an_address() -> Vec<Trap> {
         let sketch = sketch.clone().overlapping(overlap(&sketch), Identifier).bytes(&address).edc();
         let sketch = sketch.gap(11).block(Data, 21).gap(4);
         let shows = "nor an identifier mark that begins there: the block behind it is taken";
-        Trap::new("B6", shows, &sketch).answers(&[(sector, 1)]).holds(sector, &contents(sketch.track, 21))
+        Trap::new("B6", shows, &sketch).answers(&[(sector, 1, First)]).holds(sector, &contents(sketch.track, 21))
     });
     [data, identifier].into_iter().flatten().collect()
 }

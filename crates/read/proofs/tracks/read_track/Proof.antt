@@ -10,30 +10,33 @@ use Rattle.layouts.specs.Layouts.{mostSectors}
 use Rattle.walk.specs.Walk.{walk}
 use Rattle.walk.specs.Outcomes.{met}
 use Rattle.walk.specs.Turns.{Placed}
-use Rattle.answers.specs.Answers.{unread}
+use Rattle.answers.specs.Answers.{unanswered}
+use Rattle.answers.specs.declared.Record.{Record}
 use Rattle.read.proofs.States.{State, state-start, state-left, state-bad, state-foreign, state-accepted, state-end}
 use Rattle.walk.proofs.Walking.{walk-past, walk-ends, walk-all, turn-left, turn-onward, turn-accepted}
 use Rattle.read.proofs.tracks.read_track.Statement.{statement}
 use Rattle.read.proofs.tracks.read_track.Tie as tie
 
 abbrev Inv-loop : tie.InvT-loop
-Inv-loop track image area₀ records₀ bad₀ foreign₀ place₀ end area records bad foreign place =
+Inv-loop track image area₀ answers₀ places₀ foreign₀ bad₀ place₀ end area answers places foreign bad place =
     (place ≤ 8 * length image) × (bad + foreign ≤ place) × (length area ≡ track .layout .sectors * track .layout .size)
     × State track (cell image) (8 * length image) (met track image) (walk track (cell image) (8 * length image) (8 * length image - place) place)
-    (records .list) area bad foreign
+    answers places area bad foreign
 
 abbrev μ-loop : tie.MeasureT-loop
-μ-loop track image area₀ records₀ bad₀ foreign₀ place₀ end area records bad foreign place =
+μ-loop track image area₀ answers₀ places₀ foreign₀ bad₀ place₀ end area answers places foreign bad place =
     8 * length image - place
 
 -- What is known of an accepted identifier: its sector is one of the track's, and its block has a place.
 known : (c : tie.After-event Inv-loop μ-loop)
     → let sector = c .event .given .0 .0 in
-    let l = c .before .before .before .before .before .before .before .before .before .before .before .args .track .layout in
-    (1 ≤ sector) × (sector ≤ l .sectors) × Placed (c .event .given .0 .1 .0) × (l .sectors ≤ mostSectors)
+    let started = c .before .before .before .before .before .before .before .before .before .before .before .before .before .args in
+    let l = started .track .layout in
+    let image = now (started .image) in
+    (1 ≤ sector) × (sector ≤ l .sectors) × Placed (l .mode) (cell image) (8 * length image) (c .event .given .0 .1 .0) × (l .sectors ≤ mostSectors)
 known c =
     let ran = c .before .before .before .before .before in
-    let started = ran .before .before .before .before .before .before in
+    let started = ran .before .before .before .before .before .before .before .before in
     let few : 8 * length (now (started .args .image)) ≤ 2147483648 = omega (arith, started .pre .0) in
     let k = turn-accepted _ _ _ _ _ _ _ _ _ (ran .next-round .ensures) (c .before .before .before .round .given .1) (c .event .given .1) few in
     (k .0, k .1, k .2, started .pre .1 .1)
@@ -46,8 +49,9 @@ mul-end c = search needs
 
 loop-holds : tie.Need-loop-holds Inv-loop μ-loop
 loop-holds c =
-    let s = c .before .before .before .pre in
-    (search needs, search needs, ap length (s .2) ∙ length-replicate _ 0, rw (c .unread-records .ensures) (state-start _ _ _ _ _ _ (walk-all _ _ _) (s .2)))
+    let s = c .before .before .before .before .before .pre in
+    let unread = c .before .before .unread-records .ensures in
+    (search needs, search needs, ap length (s .2) ∙ length-replicate _ 0, rw unread (state-start _ _ _ _ _ _ (walk-all _ _ _) (s .2)))
 
 next-round-requires : tie.Need-next-round-requires Inv-loop μ-loop
 next-round-requires c κs = search needs
@@ -85,18 +89,18 @@ add-foreign c = search needs
 enum-known-event : tie.Need-enum-known-event Inv-loop μ-loop
 enum-known-event c = search needs
 
-sub-before : tie.Need-sub-before Inv-loop μ-loop
-sub-before c =
+sub-known : tie.Need-sub-known Inv-loop μ-loop
+sub-known c =
     let k = known (c .before) in
     k .0
 
-mul-before : tie.Need-mul-before Inv-loop μ-loop
-mul-before c =
+mul-known : tie.Need-mul-known Inv-loop μ-loop
+mul-known c =
     let k = known (c .before) in
     omega (arith, k .1, k .3)
 
-element-copy-out-before : tie.Need-element-copy-out-before Inv-loop μ-loop
-element-copy-out-before c =
+array-copy-out-known : tie.Need-array-copy-out-known Inv-loop μ-loop
+array-copy-out-known c =
     let k = known (c .before) in
     omega (arith, k .0, k .1, k .3)
 
@@ -104,22 +108,37 @@ enter-requires : tie.Need-enter-requires Inv-loop μ-loop
 enter-requires c κs =
     let accepted = c .before .before .before in
     let ran = accepted .before .before .before .before .before in
-    let s = ran .before .before .before .before .before .before .pre in
+    let s = ran .before .before .before .before .before .before .before .before .pre in
     let k = known accepted in
     (s .0, s .1, k .0, k .1, k .2, ran .before .before .loop .inv .2)
 
-sub-after : tie.Need-sub-after Inv-loop μ-loop
-sub-after c =
+sub-answers : tie.Need-sub-answers Inv-loop μ-loop
+sub-answers c =
     let k = known (c .before .before .before .before .before .before) in
     k .0
 
-mul-after : tie.Need-mul-after Inv-loop μ-loop
-mul-after c =
+mul-answers : tie.Need-mul-answers Inv-loop μ-loop
+mul-answers c =
     let k = known (c .before .before .before .before .before .before) in
     omega (arith, k .1, k .3)
 
-element-set-from-after : tie.Need-element-set-from-after Inv-loop μ-loop
-element-set-from-after c =
+array-set-from-answers : tie.Need-array-set-from-answers Inv-loop μ-loop
+array-set-from-answers c =
+    let k = known (c .before .before .before .before .before .before) in
+    omega (arith, k .0, k .1, k .3)
+
+sub-places : tie.Need-sub-places Inv-loop μ-loop
+sub-places c =
+    let k = known (c .before .before .before .before .before .before) in
+    k .0
+
+mul-places : tie.Need-mul-places Inv-loop μ-loop
+mul-places c =
+    let k = known (c .before .before .before .before .before .before) in
+    omega (arith, k .1, k .3)
+
+array-write-places : tie.Need-array-write-places Inv-loop μ-loop
+array-write-places c =
     let k = known (c .before .before .before .before .before .before) in
     omega (arith, k .0, k .1, k .3)
 
@@ -168,22 +187,25 @@ loop-again-4 c =
     let l = ran .before .before .loop in
     let o = turn-onward _ _ _ _ _ _ _ _ (ran .next-round .ensures) (accepted .before .before .before .round .given .1) (accepted .event .given .1) in
     let e = c .before .before .enter in
+    let at = accepted .event .given .0 .0 - 1 in
     let left = turn-left _ _ _ _ _ _ _ _ (ran .next-round .ensures) (accepted .before .before .before .round .given .1) (accepted .event .given .1)
     (ran .before .loop-test .taken) in (
       o .1,
       omega (arith, o .0, l .inv .1),
       e .kept .1 .1 .1 .1 .1 .0 ∙ l .inv .2,
-      state-accepted _ _ _ (l .inv .3) _ _ unread left (k .3) (k .0) (k .1) (ap (λ x. set (l .records .list) (accepted .event .given .0 .0 - 1) x) (e .ensures .0)) (e .ensures .1),
+      state-accepted _ _ _ (l .inv .3) _ _ unanswered left (k .3) (k .0) (k .1)
+          (ap (λ (r : Record). set (l .answers) at (record { answer = r .answer })) (e .ensures .0)) (ap (λ (r : Record). set (l .places) at (r .place)) (e .ensures .0))
+          (e .ensures .1),
     )
 
 same-length : tie.Need-same-length Inv-loop μ-loop
-same-length c = c .before .before .loop .inv .2 ∙ sym (ap length (c .before .before .before .before .before .before .pre .2) ∙ length-replicate _ 0)
+same-length c = c .before .before .loop .inv .2 ∙ sym (ap length (c .before .before .before .before .before .before .before .before .pre .2) ∙ length-replicate _ 0)
 
 returns : tie.Need-returns Inv-loop μ-loop
 returns c =
     let l = c .before .before .loop in
     let z = state-end _ _ _ (l .inv .3) (walk-past _ _ _ _ _ (c .before .loop-test .left)) in
-    (rw (← z .0, ← z .2, ← z .3), z .1)
+    (rw (← z .0, ← z .1, ← z .3, ← z .4), z .2)
 
 pub read-track-spec : {M : Type 1} → statement M
 read-track-spec =
@@ -204,13 +226,16 @@ read-track-spec =
     enum-told-3
     add-foreign
     enum-known-event
-    sub-before
-    mul-before
-    element-copy-out-before
+    sub-known
+    mul-known
+    array-copy-out-known
     enter-requires
-    sub-after
-    mul-after
-    element-set-from-after
+    sub-answers
+    mul-answers
+    array-set-from-answers
+    sub-places
+    mul-places
+    array-write-places
     loop-less-2
     loop-again-2
     loop-less-3

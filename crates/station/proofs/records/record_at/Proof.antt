@@ -1,14 +1,13 @@
 -- `record_at` meets its contract: the sector's part of the numbers, or none.
-use mathlib.Core.Path.{sym, ap, _∙_}
-use Prim.Native.Nat.{ℕ, _-_, _*_, _≤_}
+use mathlib.Core.Path.{sym, ap, ap₂, _∙_}
+use Prim.Native.Nat.{ℕ, _+_, _-_, _*_, _≤_}
 use native.Mathlib.Omega.{arith}
 use denote.Ref.{now}
-use lib.ListN.{getD}
 use Rattle.layouts.specs.Layouts.{mostSectors}
 use Rattle.answers.specs.Answers.{answerOf}
 use Rattle.answers.specs.declared.Answer.{Answer}
 use Rattle.station.specs.Records.{recordWidth, numberedRecord}
-use Rattle.station.proofs.Listing.{slot-first, slot-past}
+use Rattle.station.proofs.Listing.{slot-number, slot-past}
 use borrow.Author.Needs.{needs}
 use Rattle.station.proofs.records.record_at.Statement.{statement}
 use Rattle.station.proofs.records.record_at.Tie as tie
@@ -19,22 +18,37 @@ index-of-requires c κs = search needs
 mul-number : tie.Need-mul-number
 mul-number c = search needs
 
+mul-number-2 : tie.Need-mul-number-2
+mul-number-2 c = search needs
+
 shared-slice-read-number : tie.Need-shared-slice-read-number
 shared-slice-read-number c = search needs
 
-cast-answer-of : tie.Need-cast-answer-of
-cast-answer-of c = omega (arith, c .shared-slice-known2 .given (c .before .before .index-of .result * recordWidth))
+mul-place : tie.Need-mul-place
+mul-place c = search needs
+
+add-place : tie.Need-add-place
+add-place c = search needs
+
+mul-place-2 : tie.Need-mul-place-2
+mul-place-2 c = search needs
+
+shared-slice-read-place : tie.Need-shared-slice-read-place
+shared-slice-read-place c = search needs
 
 answer-of-requires : tie.Need-answer-of-requires
 answer-of-requires c κs = search needs
 
 returns : tie.Need-returns
 returns c =
-    let found = c .before .before .before in
+    let found = c .before .before .before .before in
     let a = found .before .before .args in
+    let list = now (a .list) in
     let at = (a .sector - 1) * recordWidth in
-    let number = ap (λ (i : ℕ). getD (now (a .list)) (i * recordWidth) 0) (found .index-of .ensures) ∙ sym (slot-first at (now (a .list))) in
-    ap (λ (x : Answer). record { answer = x }) (c .answer-of .ensures ∙ ap answerOf number)
+    let index = found .index-of .result * recordWidth in
+    let number = slot-number recordWidth 0 at index list (omega arith) (omega (arith, found .index-of .ensures)) in
+    let place = slot-number recordWidth 1 at (index + 1) list (omega arith) (omega (arith, found .index-of .ensures)) in
+    ap₂ (λ (x : Answer) (p : ℕ). record { answer = x; place = p }) (c .answer-of .ensures ∙ ap answerOf number) place
 
 answer-of-requires-2 : tie.Need-answer-of-requires-2
 answer-of-requires-2 c κs = search needs
@@ -44,7 +58,7 @@ returns-2 c =
     let found = c .before .before in
     let begun = found .before .before in
     let past : mostSectors ≤ begun .args .sector - 1 = omega (arith, found .index-of .ensures, c .before .if1 .left) in
-    ap (λ (x : Answer). record { answer = x }) (c .answer-of2 .ensures)
+    ap (λ (x : Answer). record { answer = x; place = 0 }) (c .answer-of2 .ensures)
     ∙ sym (ap numberedRecord (slot-past (begun .args .sector) (now (begun .args .list)) (begun .pre) past))
 
 pub record-at-spec : {M : Type 1} → statement M
@@ -53,8 +67,12 @@ record-at-spec =
     (tie.spec
     index-of-requires
     mul-number
+    mul-number-2
     shared-slice-read-number
-    cast-answer-of
+    mul-place
+    add-place
+    mul-place-2
+    shared-slice-read-place
     answer-of-requires
     returns
     answer-of-requires-2

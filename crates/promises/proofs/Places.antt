@@ -1,0 +1,201 @@
+-- Where on the track: the mark that stands at each sector's place, and that a rewrite finds it there.
+use mathlib.Core.Path.{_≡_, refl, sym, ap, subst, _∙_}
+use mathlib.Core.Bool.{Bool, true, false, cond}
+use mathlib.Core.List.{List, [], _∷_}
+use mathlib.Core.Logic.{inl, inr}
+use Prim.Native.Nat.{ℕ, _*_, _<_, _≤_}
+use native.Mathlib.Omega.{arith}
+use lib.Dec.{leb}
+use lib.ListN.{length}
+use Rattle.answers.specs.Answers.{noPlace, recordAt}
+use Rattle.answers.specs.declared.Answer.{Answer}
+use Rattle.answers.specs.declared.Answer.the-variants as answers
+use Rattle.answers.specs.declared.Fault.the-variants.{NoIdentifier, Doubled, NoBlock, PastEnd, OpenMark, WrongEdc}
+use Rattle.answers.specs.declared.Record.{Record}
+use Rattle.calls.specs.declared.Checked.the-variants.{Refused}
+use Rattle.calls.specs.declared.Refusal.{Refusal}
+use Rattle.calls.proofs.Refusals.{sector-known}
+use Rattle.cells.specs.Cells.{cell}
+use Rattle.format.specs.Order.{Numbered}
+use Rattle.layouts.specs.Layouts.{layoutOf, mostSectors}
+use Rattle.layouts.specs.Refusals.{readingTests}
+use Rattle.layouts.specs.Tracks.{trackOf}
+use Rattle.layouts.specs.declared.Track.{Track}
+use Rattle.locate.specs.Outcomes.{located, locateTests, found, Locates}
+use Rattle.locate.specs.declared.Located.the-variants as locate
+use Rattle.marks.specs.Marks.{stands}
+use Rattle.marks.specs.declared.Mark.{Mark}
+use Rattle.marks.specs.declared.Mark.the-variants.{Data, Control, Open}
+use Rattle.marks.proofs.Spelling.{stands-room, string-two}
+use Rattle.read.specs.Records.{Sector, refused as refusing, proved, blockAnswer, identifierRecord, recordFor, sectorOf}
+use Rattle.read.specs.Outcomes.{reading, readAnswer}
+use Rattle.read.specs.declared.Reading.{Reading}
+use Rattle.read.proofs.Passing.{modest}
+use Rattle.station.specs.Outcomes.{GivesRead}
+use Rattle.station.specs.Records.{numberedAt}
+use Rattle.station.proofs.Passes.{read-back}
+use Rattle.verdicts.specs.Tests.{Verdict, passed, refused, refusal, by}
+use Rattle.verdicts.proofs.Tests.{clash, passed-both, first-passed}
+use Rattle.walk.specs.Events.{blocks}
+use Rattle.walk.specs.Outcomes.{met}
+use Rattle.walk.specs.Walk.{edcRight}
+use Rattle.walk.specs.Turns.{BlockStands}
+use Rattle.walk.specs.declared.Block.{Block}
+use Rattle.walk.specs.declared.Block.the-variants.{Missing, Beyond, Within}
+use Rattle.walk.proofs.Walking.{AllWhole, blocks-whole}
+use Rattle.promises.specs.Doors.{placeIn}
+use Rattle.promises.specs.Places.{said, OneStands, Marked, PlaceOfMark}
+use Rattle.promises.specs.Sectors.{sectorIn}
+use Rattle.promises.proofs.Blocks.{alone-so}
+use Rattle.promises.proofs.Demands.{passed-reading}
+use Rattle.promises.proofs.Calling.{asked}
+use Rattle.promises.proofs.Doors.{accepted-read, place-in}
+use Rattle.promises.proofs.formatting.Calls.{record-read}
+use Rattle.promises.proofs.rewriting.Granted.{granted}
+
+-- ---- what an answer says of its mark
+
+module _ (t : Track) (image : List ℕ) where
+  abbrev c : ℕ → ℕ
+  c = cell image
+
+  abbrev n : ℕ
+  n = 8 * length image
+
+  within : (k : Mark) (m : ℕ) → stands (t .layout .mode) c n k m ≡ true → m < n
+  within k m h = omega (arith, stands-room (t .layout .mode) c n k m h, string-two (t .layout .mode) k)
+
+  -- Where a mark of a block stands it is one of three, and begins within the image.
+  one-of-three : (m : ℕ) → BlockStands (t .layout .mode) c n m → OneStands t image m (Data ∷ Control ∷ Open ∷ [])
+  one-of-three m (inl h) = inl h
+  one-of-three m (inr (inl h)) = inr (inl h)
+  one-of-three m (inr (inr h)) = inr (inr (inl h))
+
+  inside : (m : ℕ) → BlockStands (t .layout .mode) c n m → m < n
+  inside m (inl h) = within Data m h
+  inside m (inr (inl h)) = within Control m h
+  inside m (inr (inr h)) = within Open m h
+
+  -- A block answers by the mark that stands there.
+  block-said : (m : ℕ) → BlockStands (t .layout .mode) c n m → OneStands t image m (said (blockAnswer t c n m))
+  unfolding blockAnswer proved
+  block-said m s =
+      go (stands (t .layout .mode) c n Open m) refl (stands (t .layout .mode) c n Control m) refl (edcRight (t .layout .mode) c Control _ _)
+      (edcRight (t .layout .mode) c Data _ _) (one-of-three m s)
+    where
+      go : (o : Bool) → stands (t .layout .mode) c n Open m ≡ o → (k : Bool) → stands (t .layout .mode) c n Control m ≡ k → (x y : Bool)
+          → OneStands t image m (Data ∷ Control ∷ Open ∷ [])
+          → OneStands t image m (said
+          (cond o (answers.Refused OpenMark)
+          (cond k (cond x answers.Control (answers.Refused WrongEdc)) (cond y answers.Data (answers.Refused WrongEdc)))))
+      go true e k f x y h = inl e
+      go false e true f true y h = inl f
+      go false e true f false y h = inr (inl f)
+      go false e false f x true (inl d) = inl d
+      go false e false f x false (inl d) = inl d
+      go false e false f x y (inr (inl d)) = absurd (clash cc)
+      go false e false f x y (inr (inr (inl d))) = absurd (clash cc)
+
+  -- A record without a place, and one with.
+  unmarked : (a : Answer) → said a ≡ [] → Marked t image (record { answer = a; place = noPlace })
+  unmarked a e = record { none = λ h. refl; some = λ u. absurd (u e); marked = λ u. absurd (u refl) }
+
+  marked-so : (a : Answer) (m : ℕ) → BlockStands (t .layout .mode) c n m → OneStands t image m (said a)
+      → Marked t image (record { answer = a; place = m })
+  marked-so a m s h = record { none = λ e. absurd (subst (OneStands t image m) e h); some = λ u. inside m s; marked = λ u. h }
+
+  record-marked : (bs : List Block) → AllWhole t c n bs → Marked t image (recordFor t c n bs .known)
+  unfolding recordFor identifierRecord
+  record-marked [] h = unmarked (answers.Refused NoIdentifier) refl
+  record-marked (Missing ∷ []) h = unmarked (answers.Refused NoBlock) refl
+  record-marked (Beyond m ∷ []) h = marked-so (answers.Refused PastEnd) m (h .0 .1) (one-of-three m (h .0 .1))
+  record-marked (Within m ∷ []) h = marked-so (blockAnswer t c n m) m (h .0 .1) (block-said m (h .0 .1))
+  record-marked (b ∷ x ∷ bs) h = unmarked (answers.Refused Doubled) refl
+
+  sector-marked : (s : ℕ) → Marked t image (sectorIn t image s .known)
+  unfolding sectorOf
+  sector-marked s = go (leb s (t .layout .sectors))
+    where
+      go : (b : Bool) → Marked t image (cond b (recordFor t c n (blocks s (met t image))) (refusing (t .layout .size) NoIdentifier noPlace) .known)
+      go true = record-marked (blocks s (met t image)) (blocks-whole t c n s)
+      go false = unmarked (answers.Refused NoIdentifier) refl
+
+-- ---- in the words of the calls
+
+module _ (layout cylinder side : ℕ) (image : List ℕ) (given s : ℕ) (named : Numbered (layoutOf layout) s) where
+  -- The record that a read hands back which is not refused.
+  handed-back : (answer : Reading) → answer ≡ reading (trackOf layout cylinder side) image
+      → recordAt (answer .records) s ≡ sectorIn (trackOf layout cylinder side) image s .known
+  handed-back answer told =
+      ap (λ (r : Reading). recordAt (r .records) s) told ∙ record-read (trackOf layout cylinder side) image s (named .0) (named .1) (modest layout .1)
+
+  -- The record that the numbers say.
+  numbered-back : (area records counts : List ℕ) → GivesRead layout cylinder side image given 0 area records counts
+      → numberedAt records s ≡ sectorIn (trackOf layout cylinder side) image s .known
+  numbered-back area records counts p =
+      let told = accepted-read layout cylinder side image given area records counts p in
+      let few = modest layout .1 in
+      read-back layout cylinder side image given 0 area records counts p s (named .0) (omega (arith, few, named .1)) (rw told (named .1))
+      ∙ handed-back (readAnswer layout cylinder side image given) told
+
+-- ---- where the block is located
+
+-- A sector that there is, with one block at m, has this place.
+block-place : (t : Track) (image : List ℕ) (s m : ℕ) (b : Block) → s ≤ t .layout .sectors → blocks s (met t image) ≡ b ∷ []
+    → identifierRecord t (cell image) (8 * length image) b .known .place ≡ m → sectorIn t image s .known .place ≡ m
+block-place t image s m b high alone e =
+    ap (λ (x : Sector). x .known .place) (alone-so t (cell image) (8 * length image) (met t image) s b high alone) ∙ e
+
+module _ (layout cylinder side sector : ℕ) (image : List ℕ) (b : Block) (at : Locates layout cylinder side sector image (locate.Single b)) where
+  abbrev tests : Verdict Refusal
+  tests = refusal (locateTests layout cylinder side (length image) sector)
+
+  -- Its tests have passed, and the sector has this block alone.
+  located-alone : (sector ≤ layoutOf layout .sectors) × (blocks sector (met (trackOf layout cylinder side) image) ≡ b ∷ [])
+  unfolding locateTests located by
+  located-alone = go tests refl at
+    where
+      single : (bs : List Block) → locate.Single b ≡ located bs → bs ≡ b ∷ []
+      single [] e = absurd (clash cc)
+      single (x ∷ []) e = cc
+      single (x ∷ y ∷ bs) e = absurd (clash cc)
+
+      go : (v : Verdict Refusal) → tests ≡ v → locate.Single b ≡ by v (found layout cylinder side sector image) locate.Refused
+          → (sector ≤ layoutOf layout .sectors) × (blocks sector (met (trackOf layout cylinder side) image) ≡ b ∷ [])
+      go passed e h =
+          let both = passed-both (readingTests layout cylinder side (length image)) _ e in
+          (sector-known (layoutOf layout .sectors) sector (first-passed _ _ (both .1) .0) .1, single (blocks sector (met (trackOf layout cylinder side) image)) h)
+      go (refused f) e h = absurd (clash cc)
+
+  located-place : (m : ℕ) → identifierRecord (trackOf layout cylinder side) (cell image) (8 * length image) b .known .place ≡ m
+      → sectorIn (trackOf layout cylinder side) image sector .known .place ≡ m
+  located-place m e = block-place (trackOf layout cylinder side) image sector m b (located-alone .0) (located-alone .1) e
+
+pub place-of-mark : PlaceOfMark
+unfolding readAnswer identifierRecord
+place-of-mark =
+    record {
+      sectors = sector-marked;
+      read = λ layout cylinder side image given answer after s p passes named.
+          let t = trackOf layout cylinder side in
+          let told = passed-reading layout cylinder side image given answer after p passes in
+          subst (Marked t image) (sym (handed-back layout cylinder side image given s named answer told)) (sector-marked t image s);
+      door = λ layout cylinder side image given area records counts s p named.
+          let t = trackOf layout cylinder side in
+          subst (Marked t image) (sym (numbered-back layout cylinder side image given s named area records counts p)) (sector-marked t image s);
+      within = λ layout cylinder side sector m image at. located-place layout cylinder side sector image (Within m) at m refl;
+      beyond = λ layout cylinder side sector m image at. located-place layout cylinder side sector image (Beyond m) at m refl;
+      planned = λ layout cylinder side sector mark contents image plan ask.
+          let site = granted layout cylinder side sector image mark contents plan ask .site in
+          block-place (trackOf layout cylinder side) image sector (plan .place) (Within (plan .place)) (site .numbered) (site .alone) refl;
+      requested = λ layout cylinder side sector mark contents image given area records counts plan p gives.
+          let ask = asked layout cylinder side sector mark contents image plan gives in
+          let site = granted layout cylinder side sector image mark contents _ ask .site in
+          let told = accepted-read layout cylinder side image given area records counts p in
+          let inside : sector ≤ readAnswer layout cylinder side image given .sectors = rw told (site .numbered) in
+          let few : readAnswer layout cylinder side image given .sectors ≤ mostSectors = rw told (modest layout .1) in
+          ap (λ (xs : List ℕ). placeIn xs sector) (p .recorded)
+          ∙ place-in _ _ sector (site .low) inside few
+          ∙ ap (λ (r : Record). r .place) (handed-back layout cylinder side image given sector (site .low, site .numbered) _ told)
+          ∙ block-place (trackOf layout cylinder side) image sector _ (Within _) (site .numbered) (site .alone) refl;
+    }

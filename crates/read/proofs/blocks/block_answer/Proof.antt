@@ -1,0 +1,85 @@
+-- `block_answer` meets its contract: the mark decides, and then the EDC.
+use mathlib.Core.Path.{refl, ap}
+use Prim.Native.Nat.{ℕ, _*_}
+use Rattle.marks.specs.declared.Mark.the-variants as marks
+use Rattle.answers.specs.declared.Answer.the-variants.{Data, Control}
+use Rattle.read.proofs.Answering.{is-data, is-control, block-open, block-decided}
+use borrow.Author.Needs.{needs}
+use Rattle.read.proofs.blocks.block_answer.Statement.{statement}
+use Rattle.read.proofs.blocks.block_answer.Tie as tie
+
+mark-bytes-requires : tie.Need-mark-bytes-requires
+mark-bytes-requires c κs = search needs
+
+mul-bytes : tie.Need-mul-bytes
+mul-bytes c = search needs
+
+add-bytes : tie.Need-add-bytes
+add-bytes c = search needs
+
+stands-requires : tie.Need-stands-requires
+stands-requires c κs = search needs
+
+checked-requires : tie.Need-checked-requires
+checked-requires c κs = search needs
+
+same-length : tie.Need-same-length
+same-length c = search needs
+
+returns : tie.Need-returns
+returns c =
+    let asked = c .before .before .before .before in
+    let wide = asked .before .before in
+    block-decided _ _ _ _ marks.Data Data _ _ (ap (λ (k : ℕ). 16 * k) (wide .mark-bytes .ensures .0)) (wide .before .before .before .before .pre .2)
+    (is-data _ _ _ _ _ (asked .before .stands .ensures) (asked .if1 .taken)) (λ size bytes. refl) (c .before .before .checked .ensures)
+
+stands-requires-2 : tie.Need-stands-requires-2
+stands-requires-2 c κs = search needs
+
+checked-requires-2 : tie.Need-checked-requires-2
+checked-requires-2 c κs = search needs
+
+same-length-2 : tie.Need-same-length-2
+same-length-2 c = search needs
+
+returns-2 : tie.Need-returns-2
+returns-2 c =
+    let asked = c .before .before .before .before in
+    let first = asked .before .before in
+    let wide = first .before .before in
+    block-decided _ _ _ _ marks.Control Control _ _ (ap (λ (k : ℕ). 16 * k) (wide .mark-bytes .ensures .0)) (wide .before .before .before .before .pre .2)
+    (is-control _ _ _ _ _ (first .before .stands .ensures) _ (asked .before .stands2 .ensures) (asked .if2 .taken)) (λ size bytes. refl)
+    (c .before .before .checked2 .ensures)
+
+refused-requires : tie.Need-refused-requires
+refused-requires c κs = search needs
+
+same-length-3 : tie.Need-same-length-3
+same-length-3 c = search needs
+
+returns-3 : tie.Need-returns-3
+returns-3 c =
+    let asked = c .before .before .before .before in
+    let first = asked .before .before in
+    let s = first .before .before .before .before .before .before .pre in
+    block-open _ _ _ _ _ (first .before .stands .ensures) _ (asked .before .stands2 .ensures) _ (first .if1 .left) (asked .if2 .left) (s .3 .1)
+    (c .before .before .refused .ensures) (s .2)
+
+pub block-answer-spec : {M : Type 1} → statement M
+block-answer-spec =
+    tie.close
+    (tie.spec
+    mark-bytes-requires
+    mul-bytes
+    add-bytes
+    stands-requires
+    checked-requires
+    same-length
+    returns
+    stands-requires-2
+    checked-requires-2
+    same-length-2
+    returns-2
+    refused-requires
+    same-length-3
+    returns-3)

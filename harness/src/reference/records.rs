@@ -1,0 +1,13 @@
+//! A sector's record (01, "How a track is read"; 02, request 01): its answer, and the cell at which its data, control or
+//! open mark begins.
+use crate::station::{Record, NO_PLACE};
+
+/// That of a sector whose mark begins at a cell.
+pub const fn at(answer: u32, cell: usize) -> Record {
+    Record { answer, place: cell as u32 }
+}
+
+/// That of a sector for which no such mark was found, or more than one identifier: 21, 22 and 23.
+pub const fn nowhere(answer: u32) -> Record {
+    Record { answer, place: NO_PLACE }
+}
