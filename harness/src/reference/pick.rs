@@ -16,6 +16,7 @@ pub enum Pick<'a> {
 }
 
 /// Picks a sector from two passes. A slot is handed out by its answer alone.
+#[inline]
 pub fn pick<'a>(layout: u32, sector: u32, first: Pass<'a>, second: Pass<'a>) -> Pick<'a> {
     let layout = match LAYOUTS.get(layout as usize) {
         Some(layout) => layout,
