@@ -1,4 +1,4 @@
--- What a sector answers, and the papers' numbers of it (01, "How a track is read").
+-- What a sector's record holds: what it answers, with the papers' numbers (01, "How a track is read"), and its place (02, Req 01).
 use mathlib.Core.Bool.{Bool, true, false, cond}
 use mathlib.Core.List.{List, [], _∷_}
 use Prim.Native.Nat.{ℕ, _-_}

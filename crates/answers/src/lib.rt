@@ -1,4 +1,4 @@
-// What a sector answers: its record, and the numbers that the papers give the answers.
+// What a sector answers and where its mark is: its record, and the numbers that the papers give the answers.
 use layouts::MOST_SECTORS;
 ghost use Rattle.answers.specs.Outcomes.{AreUnread, IsFaultNumber, IsAnswerNumber, IsAnswerOf, TellsCarrying};
 
