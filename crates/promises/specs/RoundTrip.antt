@@ -75,7 +75,7 @@ pub record ReadsBack (t : Track) (contents marks order image : List ℕ) : Type 
 -- ---- demand 2
 
 -- What `read` hands back of a formatted track: it is not refused, no identifier is bad or foreign, and of each sector the answer's number and
--- the slot in the area are those of what went in. The order is the natural one, and so is each sector's place.
+-- the slot in the area are those of what went in. The order is the natural one: sector s stands at position s - 1, and there its place is.
 pub record HandsBack (t : Track) (contents marks : List ℕ) (answer : Reading) (area : List ℕ) : Type 0 where
   pub accepted : answer .verdict ≡ Passed
   pub counted : answer .sectors ≡ t .layout .sectors
