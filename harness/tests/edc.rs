@@ -1,15 +1,18 @@
-//! The EDC: `station_edc` against the reference, against the papers' values, and against Python's `crc_hqx`.
-use harness::reference;
+//! The EDC: `station_edc` against the reference, against annex A's register shifted a bit at a time, against the papers'
+//! values, and against Python's `crc_hqx`.
+use harness::reference::{annex, edc};
 use harness::rng::Rng;
 use harness::station;
 use harness::tally::Tally;
 use std::io::{self, Write};
 use std::process::{Command, Stdio};
 
-/// Holds the two sides against each other on one input.
+/// Holds both sides against the papers' register on one input.
 fn compare(tally: &mut Tally, bytes: &[u8]) {
-    let (found, expected) = (station::edc(bytes), reference::edc::edc(bytes));
-    assert_eq!(found, expected, "EDC of {bytes:02X?}: {found:04X}, not {expected:04X}");
+    let expected = annex::edc(bytes);
+    for (side, found) in [("the library", station::edc(bytes)), ("the reference", edc::edc(bytes))] {
+        assert_eq!(found, expected, "{side}: EDC of {bytes:02X?}: {found:04X}, not {expected:04X}");
+    }
     tally.input();
 }
 
@@ -44,6 +47,21 @@ fn random_parts() {
     tally.report();
 }
 
+/// What the reference does from any register on, with no word, with one and with several, and with bytes behind them.
+#[test]
+fn every_register() {
+    let mut rng = Rng::new(4);
+    let mut tally = Tally::of_reference("EDC", "every register, and up to 24 bytes");
+    for register in 0..=u16::MAX {
+        let length = rng.below(25);
+        let bytes = rng.bytes(length);
+        let (found, expected) = (edc::continued(register, &bytes), annex::continued(register, &bytes));
+        assert_eq!(found, expected, "from {register:04X}, {bytes:02X?}: {found:04X}, not {expected:04X}");
+        tally.input();
+    }
+    tally.report();
+}
+
 #[test]
 fn its_own_edc_leaves_zero() {
     const INPUTS: usize = 5_000;
@@ -52,8 +70,8 @@ fn its_own_edc_leaves_zero() {
     for _ in 0..INPUTS {
         let length = rng.below(300);
         let mut bytes = rng.bytes(length);
-        let edc = station::edc(&bytes);
-        bytes.extend_from_slice(&edc.to_be_bytes());
+        let own = station::edc(&bytes);
+        bytes.extend_from_slice(&own.to_be_bytes());
         assert_eq!(station::edc(&bytes), 0, "data and EDC {bytes:02X?}");
         tally.input();
     }
@@ -64,7 +82,8 @@ fn its_own_edc_leaves_zero() {
 fn published_check_value() {
     let mut tally = Tally::new("EDC", "published check value");
     assert_eq!(station::edc(b"123456789"), 0x29B1);
-    assert_eq!(reference::edc::edc(b"123456789"), 0x29B1);
+    assert_eq!(edc::edc(b"123456789"), 0x29B1);
+    assert_eq!(annex::edc(b"123456789"), 0x29B1);
     tally.input();
     tally.report();
 }

@@ -1,5 +1,6 @@
 //! The papers' rules once more in Rust: written from documents 01 and 02 and ISO 7065-2 ("004"), not from the Rattle
 //! code.
+pub mod annex;
 pub mod coding;
 pub mod dump;
 pub mod edc;

@@ -1,6 +1,6 @@
 //! Reading once more, word for word and cell by cell (01, "How a track is read"): slow, to check the fast reader by.
+use super::annex::edc;
 use super::coding::Mode;
-use super::edc::edc;
 use super::layouts::{of_track, Layout};
 use super::marks::{Mark, Marks, FM, MFM};
 use super::records::{at, nowhere};

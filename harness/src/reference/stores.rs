@@ -1,7 +1,7 @@
 //! Rewriting once more, word for word and cell by cell (01, "Rewriting a sector", "Refused calls"): the stores as a
 //! list, of which each step takes one. Slow, to check the fast rewrite by.
+use super::annex::edc;
 use super::coding::Mode;
-use super::edc::edc;
 use super::layouts::{of_track, Layout, LAYOUTS};
 use super::marks::{Marks, FM, MFM};
 use super::plain::{met, stands};
