@@ -1,15 +1,19 @@
 //! The kept vectors: what is printed for each, and its records, by the library, by the reference and by the literal
-//! reader.
+//! reader; and the kept EDCs.
 use harness::reference::dump::{dump, dump_by, records_by};
-use harness::reference::{plain, read};
+use harness::reference::{annex, edc, plain, read};
 use harness::station;
 use harness::tally::Tally;
 use std::fs;
-use std::path::Path;
+use std::path::{Path, PathBuf};
+
+fn folder() -> PathBuf {
+    Path::new(env!("CARGO_MANIFEST_DIR")).join("../vectors")
+}
 
 #[test]
 fn kept_vectors() {
-    let folder = Path::new(env!("CARGO_MANIFEST_DIR")).join("../vectors");
+    let folder = folder();
     let index = fs::read_to_string(folder.join("INDEX")).expect("the list of vectors");
     let mut tally = Tally::new("read", "kept vectors");
     for line in index.lines() {
@@ -25,5 +29,27 @@ fn kept_vectors() {
         assert_eq!(records_by(plain::read, &input), records, "the literal reader's records: {line}");
         tally.input();
     }
+    tally.report();
+}
+
+/// Each line of vectors/EDC is an EDC and the bytes that it is of.
+#[test]
+fn kept_edcs() {
+    let lines = fs::read_to_string(folder().join("EDC")).expect("the kept EDCs");
+    let byte = |digits: &[u8]| {
+        let digits = std::str::from_utf8(digits).expect("two digits");
+        u8::from_str_radix(digits, 16).expect("two hexadecimal digits")
+    };
+    let mut tally = Tally::new("EDC", "kept runs of bytes");
+    for line in lines.lines() {
+        let (own, digits) = line.split_once(' ').unwrap_or((line, ""));
+        let bytes: Vec<u8> = digits.as_bytes().chunks(2).map(byte).collect();
+        let expected = u16::from_str_radix(own, 16).expect("an EDC");
+        assert_eq!(station::edc(&bytes), expected, "{line}");
+        assert_eq!(edc::edc(&bytes), expected, "reference: {line}");
+        assert_eq!(annex::edc(&bytes), expected, "annex A's register: {line}");
+        tally.input();
+    }
+    assert!(lines.lines().count() > 0, "there is no kept EDC");
     tally.report();
 }

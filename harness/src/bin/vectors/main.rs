@@ -1,11 +1,12 @@
 //! Writes the kept vectors and the samples: `vectors FOLDER` fills FOLDER/vectors and FOLDER/samples. What the program
 //! has to print for a vector comes from the reference, and the literal reader has to agree; so do the records, which the
-//! program does not print in full.
+//! program does not print in full. FOLDER/vectors/EDC has runs of bytes, each behind its EDC.
 mod kept;
+mod runs;
 mod samples;
 
 use harness::reference::dump::{dump, dump_by, records_by};
-use harness::reference::{plain, read};
+use harness::reference::{annex, edc, plain, read};
 use std::error::Error;
 use std::fs;
 use std::path::Path;
@@ -30,6 +31,9 @@ fn main() -> Result<(), Box<dyn Error>> {
     }
     fs::write(folder.join("vectors/INDEX"), &index)?;
     println!("{} vectors", index.lines().count());
+    let runs: String = runs::all().iter().map(|bytes| behind_its_edc(bytes)).collect();
+    fs::write(folder.join("vectors/EDC"), &runs)?;
+    println!("{} runs of bytes with their EDC", runs.lines().count());
 
     fs::create_dir_all(folder.join("samples"))?;
     for (name, input) in samples::all() {
@@ -49,4 +53,12 @@ fn records(input: &[u8]) -> String {
     let records = records_by(plain::read, input);
     assert_eq!(records, records_by(read::read, input), "the literal reader and the reference");
     records
+}
+
+/// A line: the EDC and the bytes, in hexadecimal digits.
+fn behind_its_edc(bytes: &[u8]) -> String {
+    let own = annex::edc(bytes);
+    assert_eq!(own, edc::edc(bytes), "annex A's register and the reference");
+    let digits: String = bytes.iter().map(|byte| format!("{byte:02X}")).collect();
+    format!("{own:04X} {digits}").trim_end().to_string() + "\n"
 }
