@@ -38,10 +38,23 @@ static void numbers(void) {
     SAME(offsetof(struct station_record, place), sizeof(uint32_t));
 }
 
-/* 01, "Small facts" and the rule that data followed by its EDC leaves the register zero. */
+/* 004, annex A, a bit at a time: a feedback of C15 and the input, which goes into C0, C5 and C12. */
+static uint16_t shifted(const uint8_t *bytes, size_t length) {
+    uint16_t contents = 0xFFFF;
+    size_t bit;
+    for (bit = 0; bit < 8 * length; bit++) {
+        unsigned input = bytes[bit / 8] >> (7 - bit % 8) & 1, feedback = contents >> 15 ^ input;
+        contents = (uint16_t)(contents << 1 ^ feedback << 12 ^ feedback << 5 ^ feedback);
+    }
+    return contents;
+}
+
+/* 01, "Small facts" and the rule that data followed by its EDC leaves the register zero; then every length up to five words of
+ * eight bytes, from every place in a word. */
 static void edc(void) {
-    uint8_t bytes[11];
+    uint8_t bytes[11], many[48];
     uint16_t check;
+    size_t from, length, at;
     memcpy(bytes, "123456789", 9);
     check = station_edc(bytes, 9);
     SAME(check, 0x29B1);
@@ -51,6 +64,11 @@ static void edc(void) {
     bytes[4] ^= 0x10;
     SAME(station_edc(bytes, 11) != 0, 1);
     SAME(station_edc(bytes, 0), 0xFFFF);
+    for (at = 0; at < sizeof many; at++)
+        many[at] = (uint8_t)(at * at * 7 + 0xA5);
+    for (from = 0; from < 8; from++)
+        for (length = 0; length <= 40; length++)
+            SAME(station_edc(many + from, length), shifted(many + from, length));
 }
 
 /* 01, "Small facts". */
