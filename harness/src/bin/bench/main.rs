@@ -38,6 +38,7 @@ fn main() {
     read(with_time);
     pick(with_time);
     rewrite(with_time);
+    edc_steps(with_time);
 }
 
 /// What a program writes. Also under an emulator the program is the machine's own.
@@ -62,12 +63,16 @@ fn model() -> String {
 }
 
 fn edc(with_time: bool) {
-    let bytes = Rng::new(1).bytes(1026);
-    let drive = |f: fn(&[u8]) -> u16| {
-        hidden(f(&bytes));
-    };
-    let (rattle, rust) = (station::edc, reference::edc::edc);
-    Case { name: "edc, 1026 bytes", drive: &drive, rattle, rust, idle: |_| 0 }.report(with_time);
+    // a block with its EDC, and an address
+    for length in [1026, 4] {
+        let bytes = Rng::new(1).bytes(length);
+        let drive = |f: fn(&[u8]) -> u16| {
+            hidden(f(&bytes));
+        };
+        let name = &format!("edc, {length} bytes");
+        let (rattle, rust) = (station::edc, reference::edc::edc);
+        Case { name, drive: &drive, rattle, rust, idle: |_| 0 }.report(with_time);
+    }
 }
 
 fn coding(with_time: bool) {
@@ -242,5 +247,27 @@ fn rewrite(with_time: bool) {
         let rust: Rewrite = (reference::rewrite::request, reference::rewrite::step);
         let idle: Rewrite = (|_, _, _, _, _, _, _, _| 0, |_, _, _, _| 0);
         Case { name, drive: &drive, rattle, rust, idle }.report(with_time);
+    }
+}
+
+/// The five steps of a rewrite in MFM that go over all the contents: four store the EDC's cells, the last the byte behind the block.
+fn edc_steps(with_time: bool) {
+    let rng = &mut Rng::new(8);
+    for track in EACH.into_iter().filter(|&track| track != FM) {
+        let Track { layout, cylinder, side } = track;
+        let contents = rng.bytes(track.layout().size);
+        let (mut image, ..) = track.random(rng);
+        let mut plan = [0; 4];
+        assert_eq!(station::request(layout, cylinder, side, 5, 0xFB, &contents, &image, &mut plan), 0);
+        // the byte behind the block is looked at with its first data cell 0, as 4E has it: only then the EDC's last bit counts
+        plan[2] = 2 * contents.len() as u32 + 1;
+        let image = RefCell::new(&mut image); // one for all calls
+        let drive = |step: Step| {
+            let mut plan = plan;
+            (0..5).for_each(|_| assert_eq!(step(&mut plan, 0xFB, &contents, &mut image.borrow_mut()), 0));
+        };
+        let name = &format!("edc steps, layout {layout}");
+        let (rattle, rust): (Step, Step) = (station::step, reference::rewrite::step);
+        Case { name, drive: &drive, rattle, rust, idle: |_, _, _, _| 0 }.report(with_time);
     }
 }
