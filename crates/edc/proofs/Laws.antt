@@ -1,16 +1,16 @@
 -- Laws of the register: it takes bytes in turn, it stays below 65536, and its own two bytes leave it zero. By induction on
--- the bytes, and the last by adding the register to itself.
+-- the bytes.
 use mathlib.Core.Path.{_≡_, refl, sym, ap, _∙_}
 use mathlib.Core.List.{List, [], _∷_, _++_}
 use Prim.Native.Nat.{ℕ, _+_, _*_, _/_, _%_, _<_, _≤_}
 use native.Mathlib.Numerals.{add-one}
 use native.Mathlib.Omega.{arith}
 use lib.Dec.{lit<}
-use lib.Bits.{bitXor, xor-lt, xor-self, xor-add-and, and-le-l, and-le-r}
+use lib.Bits.{xor-lt}
 use lib.ListN.{length, getD, drop, drop-of-length-le}
 use lib.Seq.{drop-cons}
 use Rattle.edc.specs.Register.{start, bitEntered, byteEntered, bytesEntered, edcOf, edcBytes}
-use Rattle.edc.proofs.Linear.{byte-linear}
+use Rattle.edc.proofs.Linear.{byte-own}
 
 -- ---- bytes in turn
 
@@ -56,30 +56,15 @@ edc-lt xs = bytes-lt start xs (lit< tt)
 
 -- ---- the register's own bytes
 
--- what adds up to zero is equal
-xor-none : (a b : ℕ) → bitXor a b ≡ 0 → a ≡ b
-xor-none a b e = omega (arith, xor-add-and a b, and-le-l a b, and-le-r a b)
-
--- a register of zeros stays so
-none : byteEntered 0 0 ≡ 0
-unfolding byteEntered bitEntered
-none = refl
-
--- the register's upper byte makes room for the lower: the register added to itself is zero
-byte-own : (r : ℕ) → r < 65536 → byteEntered r (r / 256) ≡ r % 256 * 256
-byte-own r h =
-    xor-none (byteEntered r (r / 256)) (r % 256 * 256)
-    (sym (byte-linear r r h) ∙ ap (λ k. byteEntered k 0) (xor-self r) ∙ none)
-
--- the register's own two bytes leave it zero
+-- they leave it zero
 pub own-zero : (r : ℕ) → r < 65536 → bytesEntered r (edcBytes r) ≡ 0
 unfolding bytesEntered
 own-zero r h =
-    let p : r % 256 ≡ r % 256 * 256 / 256 = omega arith in
-    let q : r % 256 * 256 % 256 * 256 ≡ 0 = omega arith in
+    let p : r % 256 ≡ r * 256 % 65536 / 256 = omega arith in
+    let q : r * 256 % 65536 * 256 % 65536 ≡ 0 = omega arith in
     ap (λ k. byteEntered k (r % 256)) (byte-own r h)
-    ∙ ap (byteEntered (r % 256 * 256)) p
-    ∙ byte-own (r % 256 * 256) (omega arith)
+    ∙ ap (byteEntered (r * 256 % 65536)) p
+    ∙ byte-own (r * 256 % 65536) (omega arith)
     ∙ q
 
 -- entering data and EDC leaves the register zero (01, Order on the track)

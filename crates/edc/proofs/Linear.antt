@@ -1,88 +1,89 @@
--- The register is linear: what is added to it and then shifted through it with input ZERO has entered. Shown for one bit by
--- the laws of exclusive OR, digit by digit, and for a byte by eight of those.
+-- The register is linear: what registers and bits that are added leave is what each leaves, added. Shown for one bit, and by induction for a
+-- word of them.
 use mathlib.Core.Path.{_≡_, refl, sym, ap, ap₂, _∙_}
-use Prim.Native.Nat.{ℕ, zero, suc, _+_, _*_, _/_, _%_, _<_}
+use Prim.Native.Nat.{ℕ, zero, suc, _+_, _*_, _/_, _%_, _^_, _<_}
+use native.Mathlib.Nat.{add-mod, div-one}
 use native.Mathlib.Omega.{arith}
-use lib.Arith.{bin-ind}
-use lib.Bits.{bitXor, differ, xor-step, xor-comm, xor-shr, xor-mod, xor-zero-r}
+use lib.Bits.{bitXor, xor-shr, xor-mod, xor-zero-r, xor-zero-l}
 use Rattle.edc.specs.Register.{feedback, bitEntered, byteEntered}
+use Rattle.edc.specs.Words.{wordEntered}
+use Rattle.edc.proofs.Shifts.{xor-odd, xor-four, Linear, after, up, down, made, linear, singles, agree}
 
--- the exclusive OR of two digits
-differ-sum : (x y : ℕ) → x < 2 → y < 2 → differ x y ≡ (x + y) % 2
-differ-sum zero y h k = omega arith
-differ-sum (suc zero) zero h k = refl
-differ-sum (suc zero) (suc zero) h k = refl
-differ-sum (suc zero) (suc (suc y)) h k = absurd (omega arith)
-differ-sum (suc (suc x)) y h k = absurd (omega arith)
+-- the feedback of a sum is the sum of the feedbacks
+fed : (f g : ℕ) → f < 2 → g < 2 → (f + g) % 2 * 0x1021 ≡ bitXor (f * 0x1021) (g * 0x1021)
+fed zero zero h k = refl
+fed zero (suc zero) h k = refl
+fed (suc zero) zero h k = refl
+fed (suc zero) (suc zero) h k = refl
+fed (suc (suc f)) g h k = absurd (omega arith)
+fed zero (suc (suc g)) h k = absurd (omega arith)
+fed (suc zero) (suc (suc g)) h k = absurd (omega arith)
 
--- the lowest digit of an exclusive OR
-xor-odd : (a b : ℕ) → bitXor a b % 2 ≡ (a + b) % 2
-xor-odd a b = omega (arith, xor-step a b, differ-sum (a % 2) (b % 2) (omega arith) (omega arith))
+parity : (u v x y b c : ℕ) → u % 2 ≡ (x + y) % 2 → v % 2 ≡ (b + c) % 2 → (u + v) % 2 ≡ ((x + b) % 2 + (y + c) % 2) % 2
+parity u v x y b c p q =
+    let e : (x + y) + (b + c) ≡ (x + b) + (y + c) = omega arith in
+    add-mod u v 2 ∙ ap₂ (λ k l. (k + l) % 2) p q ∙ sym (add-mod (x + y) (b + c) 2) ∙ ap (λ k. k % 2) e ∙ add-mod (x + b) (y + c) 2
 
--- the order in which two numbers are added does not matter: their halves by induction, and their lowest digits
-xor-swap : (a b c : ℕ) → bitXor (bitXor a b) c ≡ bitXor (bitXor a c) b
-xor-swap =
-    bin-ind (λ (n : ℕ). (b c : ℕ) → bitXor (bitXor n b) c ≡ bitXor (bitXor n c) b) xor-comm
-    (λ n ih b c. omega (arith, half n b c ∙ ih (b / 2) (c / 2) ∙ sym (half n c b), odd n b c, odd n c b))
-  where
-    half : (n b c : ℕ) → bitXor (bitXor n b) c / 2 ≡ bitXor (bitXor (n / 2) (b / 2)) (c / 2)
-    half n b c = xor-shr (bitXor n b) c 1 ∙ ap (λ k. bitXor k (c / 2)) (xor-shr n b 1)
-
-    odd : (n b c : ℕ) → bitXor (bitXor n b) c % 2 ≡ (n + b + c) % 2
-    odd n b c = omega (arith, xor-odd (bitXor n b) c, xor-odd n b)
-
--- a shift passes through an exclusive OR
-xor-up : (a b : ℕ) → bitXor a b * 2 % 65536 ≡ bitXor (a * 2 % 65536) (b * 2 % 65536)
-xor-up a b =
-    let p : a * 2 / 2 ≡ a = omega arith in
-    let q : b * 2 / 2 ≡ b = omega arith in
-    let half = xor-shr (a * 2) (b * 2) 1 ∙ ap₂ bitXor p q in
-    let e : bitXor a b * 2 ≡ bitXor (a * 2) (b * 2) = omega (arith, half, xor-odd (a * 2) (b * 2)) in
-    ap (λ k. k % 65536) e ∙ xor-mod (a * 2) (b * 2) 16
-
--- the register in the upper half of a word
-pub upper : {x w : ℕ} → w ≡ x * 65536 → w / 65536 ≡ x
-upper e = omega arith
-
--- an exclusive OR there
-pub xor-upper : (a b : ℕ) → bitXor (a * 65536) (b * 65536) ≡ bitXor a b * 65536
-xor-upper a b =
-    let p : a * 65536 / 65536 ≡ a = omega arith in
-    let q : b * 65536 / 65536 ≡ b = omega arith in
-    let z : a * 65536 % 65536 ≡ 0 = omega arith in
-    let w : b * 65536 % 65536 ≡ 0 = omega arith in
-    omega (arith, xor-shr (a * 65536) (b * 65536) 16 ∙ ap₂ bitXor p q, xor-mod (a * 65536) (b * 65536) 16 ∙ ap₂ bitXor z w)
-
--- one shift: of what was added the highest digit has entered, and the rest is added one place up
-bit-linear : (s t : ℕ) → bitEntered (bitXor s t) 0 ≡ bitXor (bitEntered s (t / 32768)) (t * 2 % 65536)
+bit-sum : (r s b c : ℕ) → bitEntered (bitXor r s) (bitXor b c) ≡ bitXor (bitEntered r b) (bitEntered s c)
 unfolding bitEntered
-bit-linear s t =
-    let odd = xor-odd (s / 32768) (t / 32768) in
-    let e : feedback (bitXor s t) 0 ≡ feedback s (t / 32768) = omega (arith, xor-shr s t 15) in
-    rw (xor-up s t, e) (xor-swap (s * 2 % 65536) (t * 2 % 65536) _)
+bit-sum r s b c =
+    let upper = ap (λ x. x % 2) (xor-shr r s 15) ∙ xor-odd (r / 32768) (s / 32768) in
+    let e = parity (bitXor r s / 32768) (bitXor b c) (r / 32768) (s / 32768) b c upper (xor-odd b c) in
+    let k = ap (λ x. x * 0x1021) e ∙ fed (feedback r b) (feedback s c) (omega arith) (omega arith) in
+    ap₂ bitXor (linear (up 16 1) r s) k ∙ xor-four (r * 2 % 65536) (s * 2 % 65536) (feedback r b * 0x1021) (feedback s c * 0x1021)
 
--- the same, with the bit and what is left of `t` named
-entered : (b u s t : ℕ) → t / 32768 ≡ b → t * 2 % 65536 ≡ u → bitEntered (bitXor s t) 0 ≡ bitXor (bitEntered s b) u
-entered b u s t p q = rw (← p, ← q) (bit-linear s t)
+pub word-sum : (k r s v w : ℕ) → wordEntered (bitXor r s) k (bitXor v w) ≡ bitXor (wordEntered r k v) (wordEntered s k w)
+unfolding wordEntered
+word-sum zero r s v w = refl
+word-sum (suc k) r s v w =
+    let e : bitXor v w / 2 ^ k % 2 ≡ bitXor (v / 2 ^ k % 2) (w / 2 ^ k % 2) =
+    ap (λ x. x % 2) (xor-shr v w k) ∙ xor-mod (v / 2 ^ k) (w / 2 ^ k) 1 in
+    ap (λ b. wordEntered (bitEntered (bitXor r s) b) k (bitXor v w)) e
+    ∙ ap (λ x. wordEntered x k (bitXor v w)) (bit-sum r s (v / 2 ^ k % 2) (w / 2 ^ k % 2))
+    ∙ word-sum k (bitEntered r (v / 2 ^ k % 2)) (bitEntered s (w / 2 ^ k % 2)) v w
 
--- eight shifts: the upper byte of what was added has entered, and the lower is added in its place
-pub byte-linear : (s t : ℕ) → t < 65536 → byteEntered (bitXor s t) 0 ≡ bitXor (byteEntered s (t / 256)) (t % 256 * 256)
-unfolding byteEntered
-byte-linear s t h =
-    rw (
-      entered (t / 256 / 128 % 2) (t % 32768 * 2) _ t (omega arith) (omega arith),
-      entered (t / 256 / 64 % 2) (t % 16384 * 4) _ (t % 32768 * 2) (omega arith) (omega arith),
-      entered (t / 256 / 32 % 2) (t % 8192 * 8) _ (t % 16384 * 4) (omega arith) (omega arith),
-      entered (t / 256 / 16 % 2) (t % 4096 * 16) _ (t % 8192 * 8) (omega arith) (omega arith),
-      entered (t / 256 / 8 % 2) (t % 2048 * 32) _ (t % 4096 * 16) (omega arith) (omega arith),
-      entered (t / 256 / 4 % 2) (t % 1024 * 64) _ (t % 2048 * 32) (omega arith) (omega arith),
-      entered (t / 256 / 2 % 2) (t % 512 * 128) _ (t % 1024 * 64) (omega arith) (omega arith),
-      entered (t / 256 % 2) (t % 256 * 256) _ (t % 512 * 128) (omega arith) (omega arith),
-    )
+-- the register after a word, from zero; and after zeros
+pub of-word : (k : ℕ) → Linear (λ w. wordEntered 0 k w)
+of-word k = word-sum k 0 0
+
+pub of-zeros : (k : ℕ) → Linear (λ r. wordEntered r k 0)
+of-zeros k a b = word-sum k a b 0 0
+
+-- what a word leaves is what the register alone leaves, and the word alone, added
+pub word-apart : (k r w : ℕ) → wordEntered r k w ≡ bitXor (wordEntered r k 0) (wordEntered 0 k w)
+word-apart k r w = sym (ap₂ (λ x y. wordEntered x k y) (xor-zero-r r) (xor-zero-l w)) ∙ word-sum k r 0 0 w
+
+-- ---- a byte
+
+-- a byte is a word of eight bits
+pub byte-word : (r x : ℕ) → byteEntered r x ≡ wordEntered r 8 x
+unfolding byteEntered wordEntered
+byte-word r x = rw (div-one x)
+
+-- what stands in the upper half enters as a byte does
+upper-test : singles (λ x. wordEntered (x * 256 % 65536) 8 0) 0 8 ≡ singles (λ x. wordEntered 0 8 x) 0 8
+unfolding wordEntered bitEntered
+upper-test = refl
+
+upper-enters : (x : ℕ) → x < 256 → wordEntered (x * 256 % 65536) 8 0 ≡ wordEntered 0 8 x
+upper-enters = agree _ _ (after (λ x. x * 256 % 65536) (λ r. wordEntered r 8 0) (linear (up 16 8)) (of-zeros 8)) (of-word 8) 8 upper-test
 
 -- a byte that is added to the upper half of the register has entered after eight shifts
-pub byte-added : (r x : ℕ) → x < 256 → byteEntered (bitXor r (x * 256)) 0 ≡ byteEntered r x
+pub byte-added : (r x : ℕ) → x < 256 → byteEntered (bitXor r (x * 256 % 65536)) 0 ≡ byteEntered r x
 byte-added r x h =
-    let p : x * 256 / 256 ≡ x = omega arith in
-    let q : x * 256 % 256 * 256 ≡ 0 = omega arith in
-    byte-linear r (x * 256) (omega arith) ∙ ap₂ (λ k l. bitXor (byteEntered r k) l) p q ∙ xor-zero-r (byteEntered r x)
+    byte-word (bitXor r (x * 256 % 65536)) 0
+    ∙ of-zeros 8 r (x * 256 % 65536)
+    ∙ ap (bitXor (wordEntered r 8 0)) (upper-enters x h)
+    ∙ sym (word-apart 8 r x)
+    ∙ sym (byte-word r x)
+
+-- the register's own upper byte makes room for the lower
+own-linear : Linear (λ r. wordEntered r 8 (r / 256))
+own-linear a b = ap (wordEntered (bitXor a b) 8) (linear (down 8) a b) ∙ word-sum 8 a b (a / 256) (b / 256)
+
+own-test : singles (λ r. wordEntered r 8 (r / 256)) 0 16 ≡ singles (made (up 16 8)) 0 16
+unfolding wordEntered bitEntered
+own-test = refl
+
+pub byte-own : (r : ℕ) → r < 65536 → byteEntered r (r / 256) ≡ r * 256 % 65536
+byte-own r h = byte-word r (r / 256) ∙ agree (λ r. wordEntered r 8 (r / 256)) (made (up 16 8)) own-linear (linear (up 16 8)) 16 own-test r h
