@@ -28,8 +28,8 @@ pub fn byte_entered(register: u16, byte: u8) -> u16
     moved(register ^ ((byte as u16) << 8))
 }
 
-// A word that stands for the register. X^64 + X^48 + X^20 is 1 modulo the polynomial's fourth power, X^64 + X^48 + X^20 + 1: these are the terms
-// without the sixteen places that a register is ahead of its word.
+// A word that stands for the register. A register is sixteen places ahead of its word, and X^64 + X^48 + X^20 is 1 modulo the polynomial's fourth
+// power, X^64 + X^48 + X^20 + 1.
 fn spread(register: u16) -> u64
     ensures { λ r. ⌜ standsFor r ≡ register ⌝ }
 {
@@ -55,8 +55,8 @@ fn pushed(word: u64, byte: u8) -> u64
     (folded(word >> 56) ^ (word << 8)) ^ (byte as u64)
 }
 
-// The register that the word stands for: what is left of it modulo the polynomial. `all` is the quotient, by the polynomial and its second,
-// fourth and eighth power, and then the rest is the polynomial's multiple in the lowest sixteen places.
+// The register that the word stands for: the rest of the word times X^16, modulo the polynomial. `all` is the quotient, by the polynomial and its
+// second, fourth and eighth power; what it has times the polynomial in the lowest sixteen places is the rest.
 fn reduced(word: u64) -> u16
     ensures { λ r. ⌜ r ≡ standsFor word ⌝ }
 {
