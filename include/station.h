@@ -1,5 +1,6 @@
 /*
- * station.h: the tracks of 200 mm flexible disk cartridges (ISO 7065-2), held as bit cells: format, read, pick from two passes, rewrite.
+ * station.h: the tracks of 200 mm flexible disk cartridges (ISO 7065-2), held as bit cells: format, read, pick from two passes, rewrite; and the
+ * file of a read cartridge.
  *
  * The functions are in target/staticlib/libstation.a, which `rt staticlib station` writes for x86-64 programs. Each is proved to do what is
  * said at its prototype, for all arguments, and to touch no byte but those it is lent. The archive has no variable and calls nothing but
@@ -37,6 +38,12 @@
  *   11  its mark is not on a byte boundary
  *   12  a step after the last
  *   13  a step, and no data, control or open mark stands at the plan's place on a byte boundary, or its block passes the image's end
+ *   31  a count or a section passes the end of the file
+ *   32  a label of more than 80 bytes; or tracks: more than 150, not three bytes each, or not as it is said of a file below
+ *   33  not as many answers as the tracks have sectors, or one that is no answer's number
+ *   34  not as many bytes of data as the answers call for
+ *   35  bytes are left over behind the file
+ *   36  the area is shorter than the file
  *
  * A sector's record, from station_read in `records` and from station_pick in `record`, is its answer and its place. The answer:
  *
@@ -53,6 +60,16 @@
  *
  * The place is the cell at which the sector's data, control or open mark begins, the image's first cell being 0. It is there with 1, 2, 24, 25
  * and 26. With 21 and 23 no such mark was found, and with 22 there may be several: the place is then 4,294,967,295, which no cell has.
+ *
+ * A file holds what was read of a cartridge, for another bench: four sections, each behind its count of four bytes, the most significant first.
+ *
+ *   label    0 to 80 bytes, of any value
+ *   tracks   0 to 150, three bytes each: cylinder, side, layout. They rise by cylinder and then side, no pair comes twice, and each has a
+ *            layout that the table has on it
+ *   answers  a byte for each sector of these tracks, by track and then sector number: 1, 2, 21 to 26
+ *   data     the bytes of the sectors that are answered 1 or 2, in that order, N of each
+ *
+ * The tracks' count is that of tracks, the others' that of bytes. Each content has one file. The empty one has 16 bytes, all zero.
  */
 #ifndef STATION_H
 #define STATION_H
@@ -79,6 +96,16 @@ enum station_refusal {
     STATION_REFUSED_OFF_BOUNDARY = 11,
     STATION_REFUSED_FINISHED = 12,
     STATION_REFUSED_NO_BLOCK = 13
+};
+
+/* Those of station_file_write and station_file_read. */
+enum station_file_refusal {
+    STATION_REFUSED_FILE_PAST_END = 31,
+    STATION_REFUSED_FILE_LABEL_OR_TRACKS = 32,
+    STATION_REFUSED_FILE_ANSWER_BYTES = 33,
+    STATION_REFUSED_FILE_DATA_COUNT = 34,
+    STATION_REFUSED_FILE_LEFT_OVER = 35,
+    STATION_REFUSED_FILE_AREA_LENGTH = 36
 };
 
 enum station_answer {
@@ -115,6 +142,22 @@ enum station_size {
     STATION_LONGEST_IMAGE = 24576
 };
 
+/*
+ * The most of a file: bytes of the label, tracks, the bytes of one of them, answers, bytes before the data (its place), bytes in all.
+ *   answers          3,900 = 150 * 26
+ *   before the data  4,446 = 4 * 4 + 80 + 150 * 3 + 3,900
+ *   in all       1,224,182 = 4 * 4 + 80 + 150 * 3 + (26 + 3,328) + (26 + 6,656) + 148 * (8 + 8,192)
+ * Cylinder 0 has layouts 0 and 1. On the 148 tracks of the others the most answers are layout 1's, and the most bytes layout 3's.
+ */
+enum station_file_size {
+    STATION_LONGEST_LABEL = 80,
+    STATION_MOST_TRACKS = 150,
+    STATION_TRACK_BYTES = 3,
+    STATION_MOST_ANSWERS = 3900,
+    STATION_LONGEST_HEAD = 4446,
+    STATION_LONGEST_FILE = 1224182
+};
+
 /* The marks that a sector may be given: of a data record, and of a control record. */
 enum station_mark {
     STATION_MARK_DATA = 0xFB,
@@ -128,6 +171,18 @@ enum station_mark {
 struct station_record {
     uint32_t answer;
     uint32_t place;
+};
+
+/* The sections of a file: where each begins, past its count, the file's first byte being 0; and its count. */
+struct station_sections {
+    uint32_t label_place;
+    uint32_t label_count;
+    uint32_t tracks_place;
+    uint32_t tracks_count;
+    uint32_t answers_place;
+    uint32_t answers_count;
+    uint32_t data_place;
+    uint32_t data_count;
 };
 
 /* The EDC of the bytes: X^16 + X^12 + X^5 + 1, the register all ones at the start. Never refused. */
@@ -187,6 +242,22 @@ uint8_t station_request(uint32_t layout, uint32_t cylinder, uint32_t side, uint3
  */
 uint8_t station_step(uint32_t plan[4], uint32_t mark, const uint8_t *contents, size_t contents_length, uint8_t *image,
                      size_t image_length);
+
+/*
+ * Writes a file of its four sections, handed over without their counts: `tracks` has three bytes for each track.
+ * 0: `area`, whatever it held, holds the file, and zeros from its end on; `length` gets the bytes of the file.
+ * Refused 32, 33, 34, 36: zeros in both, `area` over the whole length lent.
+ */
+uint8_t station_file_write(const uint8_t *label, size_t label_length, const uint8_t *tracks, size_t tracks_length, const uint8_t *answers,
+                           size_t answers_length, const uint8_t *data, size_t data_length, uint8_t *area, size_t area_length,
+                           uint32_t length[1]);
+
+/*
+ * Reads a file, which has to be all that is lent. 0: `sections` gets each section's place and count, also of an empty one.
+ * Refused 31 to 35: zeros. The first that is met from the file's first byte on counts: of each section its count (31 where that is cut, else 32,
+ * 33 or 34), then whether it is there as a whole (31), then what it holds (32 or 33); 35 is last.
+ */
+uint8_t station_file_read(const uint8_t *file, size_t file_length, struct station_sections *sections);
 
 #ifdef __cplusplus
 }

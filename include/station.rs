@@ -65,6 +65,20 @@ extern "C" {
         image: *mut u8,
         image_length: usize,
     ) -> u8;
+    pub fn station_file_write(
+        label: *const u8,
+        label_length: usize,
+        tracks: *const u8,
+        tracks_length: usize,
+        answers: *const u8,
+        answers_length: usize,
+        data: *const u8,
+        data_length: usize,
+        area: *mut u8,
+        area_length: usize,
+        length: *mut [u32; 1],
+    ) -> u8;
+    pub fn station_file_read(file: *const u8, file_length: usize, sections: *mut Sections) -> u8;
 }
 
 /// What one layout takes: its sectors, the bytes of one, and the image bytes of a formatted track.
@@ -108,6 +122,30 @@ pub const NO_PLACE: u32 = u32::MAX;
 pub struct Record {
     pub answer: u32,
     pub place: u32,
+}
+
+/// The most of a file, as station.h adds it up: bytes of the label, tracks, the bytes of one of them (cylinder, side,
+/// layout), answers, bytes before the data, and bytes in all.
+pub const LONGEST_LABEL: usize = 80;
+pub const MOST_TRACKS: usize = 150;
+pub const TRACK_BYTES: usize = 3;
+pub const MOST_ANSWERS: usize = 3_900;
+pub const LONGEST_HEAD: usize = 4_446;
+pub const LONGEST_FILE: usize = 1_224_182;
+
+/// The sections of a file, station.h's `struct station_sections`: the place of each, the file's first byte being 0, and
+/// its count, of bytes, but of tracks with the tracks.
+#[repr(C)]
+#[derive(Clone, Copy, Debug, Default, PartialEq, Eq)]
+pub struct Sections {
+    pub label_place: u32,
+    pub label_count: u32,
+    pub tracks_place: u32,
+    pub tracks_count: u32,
+    pub answers_place: u32,
+    pub answers_count: u32,
+    pub data_place: u32,
+    pub data_count: u32,
 }
 
 /// What a read tells of a track, beside the sectors' slots.
@@ -249,4 +287,42 @@ pub fn step(plan: &mut [u32; 4], mark: u32, contents: &[u8], image: &mut [u8]) -
     // SAFETY: each pointer and length are those of one live slice or array; `contents` is only read, and `plan` and
     // `image`, which are written, overlap neither it nor each other; every number is taken, in the plan too.
     unsafe { station_step(plan, mark, contents.as_ptr(), contents.len(), image.as_mut_ptr(), image.len()) }
+}
+
+/// Writes a file of its four sections: three bytes for each track, an answer for each sector of these, and the data of
+/// those that are answered 1 or 2. 0: the area holds the file, and zeros behind it, and the length is the file's. Else
+/// the number of the refusal, and area and length are zero.
+pub fn file_write(
+    label: &[u8],
+    tracks: &[u8],
+    answers: &[u8],
+    data: &[u8],
+    area: &mut [u8],
+    length: &mut [u32; 1],
+) -> u8 {
+    // SAFETY: each pointer and length are those of one live slice or array; all but `area` and `length` are only read,
+    // and these, which are written, overlap none of them nor each other; every length is taken.
+    unsafe {
+        station_file_write(
+            label.as_ptr(),
+            label.len(),
+            tracks.as_ptr(),
+            tracks.len(),
+            answers.as_ptr(),
+            answers.len(),
+            data.as_ptr(),
+            data.len(),
+            area.as_mut_ptr(),
+            area.len(),
+            length,
+        )
+    }
+}
+
+/// Reads a file, which has to be all of the slice. 0: the sections are there, the empty ones too. Else the number of the
+/// refusal, and all of them are zero.
+pub fn file_read(file: &[u8], sections: &mut Sections) -> u8 {
+    // SAFETY: pointer and length are those of one live slice, which is only read, and `sections`, which is written,
+    // does not overlap it.
+    unsafe { station_file_read(file.as_ptr(), file.len(), sections) }
 }

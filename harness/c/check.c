@@ -51,6 +51,12 @@ void same_records(const char *file, int line, const char *what, const struct sta
                 (unsigned long)expected[i].answer, (unsigned long)expected[i].place);
 }
 
+void same_sections(const char *file, int line, const char *what, const struct station_sections *got, const struct station_sections *expected) {
+    uint32_t numbers[2][8];
+    memcpy(numbers[0], got, sizeof numbers[0]), memcpy(numbers[1], expected, sizeof numbers[1]);
+    same_numbers(file, line, what, numbers[0], numbers[1], 8);
+}
+
 void all(const char *file, int line, const char *what, const uint8_t *got, uint8_t value, size_t length) {
     size_t i = 0;
     made++;

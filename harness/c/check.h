@@ -11,6 +11,7 @@
 #define SAME_BYTES(got, expected, length) same_bytes(__FILE__, __LINE__, #got, got, expected, length)
 #define SAME_NUMBERS(got, expected, count) same_numbers(__FILE__, __LINE__, #got, got, expected, count)
 #define SAME_RECORDS(got, expected, count) same_records(__FILE__, __LINE__, #got, got, expected, count)
+#define SAME_SECTIONS(got, expected) same_sections(__FILE__, __LINE__, #got, got, expected)
 #define ALL(got, value, length) all(__FILE__, __LINE__, #got, got, value, length)
 #define ROOM_KEPT(room) room_kept(__FILE__, __LINE__, #room, room)
 
@@ -19,6 +20,7 @@ void same_bytes(const char *file, int line, const char *what, const uint8_t *got
 void same_numbers(const char *file, int line, const char *what, const uint32_t *got, const uint32_t *expected, size_t count);
 void same_records(const char *file, int line, const char *what, const struct station_record *got, const struct station_record *expected,
                   size_t count);
+void same_sections(const char *file, int line, const char *what, const struct station_sections *got, const struct station_sections *expected);
 void all(const char *file, int line, const char *what, const uint8_t *got, uint8_t value, size_t length);
 
 /* An area that is lent, with bytes before and after it that must stay as they are. */

@@ -5,12 +5,14 @@
 #include "tracks.h"
 
 static uint8_t data[LONGEST_AREA], marks[MOST_SECTORS], image[LONGEST_TRACK], contents[128];
+static const uint8_t track_zero[3];
 
 static void with(uint8_t *nothing) {
     const struct track *track = &TRACKS[0];
     size_t area = track->sectors * track->size;
     struct station_record records[26], picked;
-    uint32_t counts[2], taken[3], plan[4];
+    struct station_sections sections;
+    uint32_t counts[2], taken[3], plan[4], length[1];
     fresh(track, data, marks, image);
     SAME(station_edc(nothing, 0), 0xFFFF);
     SAME(station_data_byte(nothing, 0, 3), 0);
@@ -27,6 +29,11 @@ static void with(uint8_t *nothing) {
     SAME(station_request(0, 0, 0, 1, 0xFB, contents, 128, image, track->image, plan), STATION_DONE);
     SAME(station_step(plan, 0xFB, nothing, 0, image, track->image), STATION_REFUSED_AREA_LENGTH);
     SAME(station_step(plan, 0xFB, contents, 128, nothing, 0), STATION_REFUSED_IMAGE_LENGTH);
+    SAME(station_file_write(nothing, 0, nothing, 0, nothing, 0, nothing, 0, data, 16, length), STATION_DONE);
+    SAME(station_file_read(data, 16, &sections), STATION_DONE);
+    SAME(station_file_write(nothing, 0, nothing, 0, nothing, 0, nothing, 0, nothing, 0, length), STATION_REFUSED_FILE_AREA_LENGTH);
+    SAME(station_file_write(marks, 1, track_zero, 3, nothing, 0, nothing, 0, data, 16, length), STATION_REFUSED_FILE_ANSWER_BYTES);
+    SAME(station_file_read(nothing, 0, &sections), STATION_REFUSED_FILE_PAST_END);
 }
 
 void empty_test(void) {

@@ -22,6 +22,12 @@ static void numbers(void) {
     SAME(STATION_REFUSED_OFF_BOUNDARY, 11);
     SAME(STATION_REFUSED_FINISHED, 12);
     SAME(STATION_REFUSED_NO_BLOCK, 13);
+    SAME(STATION_REFUSED_FILE_PAST_END, 31);
+    SAME(STATION_REFUSED_FILE_LABEL_OR_TRACKS, 32);
+    SAME(STATION_REFUSED_FILE_ANSWER_BYTES, 33);
+    SAME(STATION_REFUSED_FILE_DATA_COUNT, 34);
+    SAME(STATION_REFUSED_FILE_LEFT_OVER, 35);
+    SAME(STATION_REFUSED_FILE_AREA_LENGTH, 36);
     SAME(STATION_ANSWER_DATA, 1);
     SAME(STATION_ANSWER_CONTROL, 2);
     SAME(STATION_ANSWER_NO_IDENTIFIER, 21);
@@ -33,9 +39,21 @@ static void numbers(void) {
     SAME(STATION_MARK_DATA, 0xFB);
     SAME(STATION_MARK_CONTROL, 0xF8);
     SAME(STATION_NO_PLACE, UINT32_MAX);
-    /* a record is its numbers, one after the other */
+}
+
+/* A record is its numbers, one after the other, and so are a file's sections: place and count of each, in the order of the file. */
+static void structs(void) {
     SAME(sizeof(struct station_record), 2 * sizeof(uint32_t));
     SAME(offsetof(struct station_record, place), sizeof(uint32_t));
+    SAME(sizeof(struct station_sections), 8 * sizeof(uint32_t));
+    SAME(offsetof(struct station_sections, label_place), 0);
+    SAME(offsetof(struct station_sections, label_count), sizeof(uint32_t));
+    SAME(offsetof(struct station_sections, tracks_place), 2 * sizeof(uint32_t));
+    SAME(offsetof(struct station_sections, tracks_count), 3 * sizeof(uint32_t));
+    SAME(offsetof(struct station_sections, answers_place), 4 * sizeof(uint32_t));
+    SAME(offsetof(struct station_sections, answers_count), 5 * sizeof(uint32_t));
+    SAME(offsetof(struct station_sections, data_place), 6 * sizeof(uint32_t));
+    SAME(offsetof(struct station_sections, data_count), 7 * sizeof(uint32_t));
 }
 
 /* 004, annex A, a bit at a time: a feedback of C15 and the input, which goes into C0, C5 and C12. */
@@ -113,6 +131,7 @@ static void data_byte(void) {
 
 int main(void) {
     numbers();
+    structs();
     edc();
     code();
     data_byte();
@@ -124,5 +143,7 @@ int main(void) {
     cut_test();
     empty_test();
     size_test();
+    file_test();
+    file_end_test();
     return checks_end();
 }

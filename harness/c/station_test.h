@@ -10,5 +10,7 @@ void step_test(void);
 void cut_test(void);
 void empty_test(void);
 void size_test(void);
+void file_test(void);
+void file_end_test(void);
 
 #endif

@@ -1,8 +1,12 @@
 //! The kept vectors: what is printed for each, and its records, by the library, by the reference and by the literal
-//! reader; and the kept EDCs.
+//! reader; the kept EDCs; and the kept files.
+use harness::compare::file::{read as read_file, sections};
+use harness::files::numbers;
 use harness::reference::dump::{dump, dump_by, records_by};
-use harness::reference::{annex, edc, plain, read};
-use harness::station;
+use harness::reference::{annex, edc, plain, plain_file, read};
+use harness::rng::Rng;
+use harness::station::{self, Sections};
+use harness::tally::met::Row;
 use harness::tally::Tally;
 use std::fs;
 use std::path::{Path, PathBuf};
@@ -51,5 +55,24 @@ fn kept_edcs() {
         tally.input();
     }
     assert!(lines.lines().count() > 0, "there is no kept EDC");
+    tally.report();
+}
+
+/// Each line of vectors/files/INDEX is a file's name, the number of its reading, place and count of each section, and
+/// what it shows.
+#[test]
+fn kept_files() {
+    let folder = folder().join("files");
+    let index = fs::read_to_string(folder.join("INDEX")).expect("the list of files");
+    let (mut rng, mut tally) = (Rng::new(1), Tally::new("file", "kept files"));
+    let said = |(number, sections): (u8, Sections)| [&[u32::from(number)][..], &numbers(&sections)].concat();
+    for line in index.lines() {
+        let (name, words) = line.split_at(4);
+        let kept: Vec<u32> = words.split_whitespace().take(9).map(|word| word.parse().expect("a number")).collect();
+        let file = fs::read(folder.join(name).with_extension("file")).expect("a kept file");
+        assert_eq!(said(read_file(&mut tally, &mut rng, &file)), kept, "{line}");
+        assert_eq!(said(sections(&mut rng, plain_file::read, &file)), kept, "literal reading: {line}");
+    }
+    tally.has_met(Row::FileRead, &[0, 31, 32, 33, 34, 35]);
     tally.report();
 }

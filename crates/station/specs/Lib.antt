@@ -4,5 +4,7 @@
 pub mod Records
 -- a pick in numbers
 pub mod Picks
+-- a file in numbers, and what the functions of the file promise
+pub mod Files
 -- what each exported function promises
 pub mod Outcomes

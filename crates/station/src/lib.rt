@@ -2,11 +2,13 @@
 use cells::Mode;
 ghost use mathlib.Core.Path.{_≡_};
 ghost use Prim.Native.Nat.{_+_, _*_};
-ghost use lib.ListN.{length};
+ghost use lib.ListN.{length, length as listLength};
 ghost use Rattle.coding.specs.Coding.{high, low};
 ghost use Rattle.cells.specs.declared.Mode.the-variants.{Fm, Mfm};
 ghost use Rattle.station.specs.Outcomes.{GivesEdc, GivesCoded, GivesDataByte, GivesFormat, GivesRead, GivesPick, GivesRequest, GivesStep};
+ghost use Rattle.station.specs.Files.{GivesFileRead, GivesFileWrite};
 
+mod files;
 mod records;
 mod rewriting;
 mod taken;
@@ -148,4 +150,34 @@ pub extern "C" fn station_step(
 {
     let answer = rewrite::step(rewriting::numbered_plan(*plan), mark, contents, image);
     rewriting::move_on(answer, image.len(), plan)
+}
+
+// Writes the file of a read cartridge: 0, and `area` holds the file and zeros behind it, `length` its bytes; or the number of the refusal, and zeros in
+// the whole area and in `length`. `tracks` has three bytes each, cylinder, side and layout, `answers` a byte for each of their sectors, and `data` the
+// bytes of those that answered with bytes.
+#[no_mangle]
+pub extern "C" fn station_file_write(
+    label: &[u8],
+    tracks: &[u8],
+    answers: &[u8],
+    data: &[u8],
+    area: &mut [u8],
+    length: &mut [u32; 1],
+) -> u8
+    ensures { λ r. ⌜ GivesFileWrite (record { label = now (label .entry); tracks = now (tracks .entry); answers = now (answers .entry); «data» = now («data» .entry) }) (listLength (now (area .entry))) r (now (area .exit)) (now (length .exit)) ⌝ }
+{
+    let answer = file::write(label, tracks, answers, data, area);
+    *length = files::written_length(answer);
+    files::written_number(answer)
+}
+
+// Reads the file of a read cartridge: 0, and `sections` gets the place and the count of label, tracks, answers and data; or the number of the
+// refusal, and zeros.
+#[no_mangle]
+pub extern "C" fn station_file_read(file: &[u8], sections: &mut [u32; 8]) -> u8
+    ensures { λ r. ⌜ GivesFileRead (now (file .entry)) r (now (sections .exit)) ⌝ }
+{
+    let answer = file::read(file);
+    *sections = files::section_numbers(answer);
+    files::judged_number(answer)
 }

@@ -1,4 +1,5 @@
 //! How the library is held against the reference on one call, and what is counted then: for the tests and the long run.
+pub mod file;
 pub mod format;
 pub mod pick;
 pub mod read;

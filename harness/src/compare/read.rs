@@ -44,7 +44,7 @@ impl Call {
 }
 
 /// Bytes of which none is 0.
-fn garbage(rng: &mut Rng, length: usize) -> Vec<u8> {
+pub(super) fn garbage(rng: &mut Rng, length: usize) -> Vec<u8> {
     let eight = rng.bits().to_le_bytes().map(|byte| byte | 1);
     let mut bytes = eight.repeat(length / 8 + 1);
     bytes.truncate(length);

@@ -1,5 +1,6 @@
 //! The pick from two passes (01, "Two passes", "Refused calls"; 02, request 01).
 use super::layouts::LAYOUTS;
+use super::records::{has_bytes, is_answer};
 use crate::station::{Pass, Record};
 
 /// What is handed back for one sector.
@@ -32,9 +33,9 @@ pub fn pick<'a>(layout: u32, sector: u32, first: Pass<'a>, second: Pass<'a>) -> 
     let slot = index * layout.size..(index + 1) * layout.size;
     let (one, two) = (first.records[index], second.records[index]);
     match (one.answer, two.answer) {
-        (1 | 2, _) => Pick::First(one, &first.area[slot]),
-        (_, 1 | 2) => Pick::Second(two, &second.area[slot]),
-        (21..=26, _) => Pick::Neither(one),
+        (answer, _) if has_bytes(answer) => Pick::First(one, &first.area[slot]),
+        (_, answer) if has_bytes(answer) => Pick::Second(two, &second.area[slot]),
+        (answer, _) if is_answer(answer) => Pick::Neither(one),
         // no answer's number stands for a sector that was never met
         _ => Pick::Neither(Record { answer: 21, ..one }),
     }

@@ -11,3 +11,15 @@ pub const fn at(answer: u32, cell: usize) -> Record {
 pub const fn nowhere(answer: u32) -> Record {
     Record { answer, place: NO_PLACE }
 }
+
+/// Whether the number is an answer's.
+#[inline]
+pub const fn is_answer(number: u32) -> bool {
+    matches!(number, 1 | 2 | 21..=26)
+}
+
+/// Whether there are bytes with an answer: those of a data or a control record.
+#[inline]
+pub const fn has_bytes(answer: u32) -> bool {
+    matches!(answer, 1 | 2)
+}

@@ -1,4 +1,5 @@
-//! The outcomes that comparisons met, and those that a run has to meet (01, "How a track is read", "Refused calls").
+//! The outcomes that comparisons met, and those that a run has to meet (01, "How a track is read", "Refused calls"; 02,
+//! request 03).
 use super::grouped;
 use std::collections::BTreeSet;
 use std::fmt::{self, Display};
@@ -21,13 +22,15 @@ pub enum Row {
     Neither,
     Request,
     Step,
+    FileWrite,
+    FileRead,
 }
 
 /// Every answer of a reader.
 pub const ANSWERS: [u8; 8] = [1, 2, 21, 22, 23, 24, 25, 26];
 
 /// Every row with its name, and the outcomes that it has to meet. No call gives 8: every layout adds up to its image.
-const ROWS: [(Row, &str, &[u8]); 10] = [
+const ROWS: [(Row, &str, &[u8]); 12] = [
     (Row::Format, "format", &[0, 1, 2, 3, 4, 5, 6, 7]),
     (Row::Read, "read", &[0, 1, 2, 3, 4, 5]),
     (Row::Answer, "answer", &ANSWERS),
@@ -38,10 +41,12 @@ const ROWS: [(Row, &str, &[u8]); 10] = [
     (Row::Neither, "neither pass", &[21, 22, 23, 24, 25, 26]),
     (Row::Request, "request", &[0, 1, 2, 3, 4, 5, 6, 7, 9, 10, 11]),
     (Row::Step, "step", &[0, 1, 4, 5, 6, 12, 13]),
+    (Row::FileWrite, "file write", &[0, 32, 33, 34, 36]),
+    (Row::FileRead, "file read", &[0, 31, 32, 33, 34, 35]),
 ];
 
 /// The rows whose numbers other than 0 are refusals.
-const CALLS: [Row; 5] = [Row::Format, Row::Read, Row::Pick, Row::Request, Row::Step];
+const CALLS: [Row; 7] = [Row::Format, Row::Read, Row::Pick, Row::Request, Row::Step, Row::FileWrite, Row::FileRead];
 
 /// Room for every number there is, those of the requests (02) among them: answers up to 27, refusals up to 53.
 const NUMBERS: usize = 54;

@@ -1,5 +1,5 @@
 //! What the C header and the Rust file beside it declare, as text with single spaces.
-use crate::signatures::without_line_comments;
+use crate::signatures::{without_line_comments, Structs};
 
 /// One space between words, none inside brackets' edges, and no comma before a closing one.
 fn plain(text: &str) -> String {
@@ -24,8 +24,7 @@ pub struct Header {
     pub prototypes: Vec<String>,
     /// The constants of its enums and its macros, each as `NAME = value`.
     pub constants: Vec<String>,
-    /// The numbers of its one struct, the record.
-    pub record: Vec<String>,
+    pub structs: Structs,
 }
 
 impl Header {
@@ -37,16 +36,18 @@ impl Header {
         let inside = others.strip_prefix("extern \"C\" {").and_then(|text| text.strip_suffix('}'));
         let items = items(inside.expect("one extern \"C\" round all"));
         let (prototypes, types): (Vec<String>, Vec<String>) = items.into_iter().partition(|item| item.ends_with(')'));
-        let (structs, enums): (Vec<String>, Vec<String>) =
+        let (declared, enums): (Vec<String>, Vec<String>) =
             types.into_iter().partition(|item| item.starts_with("struct "));
 
         assert!(enums.iter().all(|item| item.starts_with("enum ")), "neither type nor prototype: {enums:#?}");
         let mut constants: Vec<String> =
             enums.iter().flat_map(|text| braced(text, "{").split(',').map(plain).collect::<Vec<_>>()).collect();
         constants.extend(directives.iter().filter_map(|line| defined(line)));
-        assert_eq!(structs.len(), 1, "the record is the only struct: {structs:#?}");
-        let record = numbers(braced(&structs[0], "struct station_record {"), ';', "uint32_t ", "");
-        Header { prototypes, constants, record }
+        assert_eq!(declared.len(), 2, "record and sections are the only structs: {declared:#?}");
+        let fields = |of: &str, name: &str| numbers(braced(of, &format!("struct {name} {{")), ';', "uint32_t ", "");
+        let record = fields(&declared[0], "station_record");
+        let sections = fields(&declared[1], "station_sections");
+        Header { prototypes, constants, structs: Structs { record, sections } }
     }
 }
 
@@ -82,13 +83,17 @@ fn numbers(fields: &str, end: char, before: &str, after: &str) -> Vec<String> {
     fields.split_terminator(end).map(name).collect()
 }
 
-/// The numbers of the record in a Rust file, where it has to be laid out as in C.
-pub fn record_in_rust(source: &str) -> Vec<String> {
+/// The structs of a Rust file, which have to be laid out as in C.
+pub fn structs_in_rust(source: &str) -> Structs {
     let source = plain(&without_line_comments(source));
-    let before = source.split("pub struct Record {").next().unwrap_or("");
-    let attributes = before.rsplit(['}', ';']).next().unwrap_or("");
-    assert!(attributes.contains("#[repr(C)]"), "the record is not laid out as in C: {attributes}");
-    numbers(braced(&source, "pub struct Record {"), ',', "pub ", ": u32")
+    let fields = |name: &str| {
+        let beginning = format!("pub struct {name} {{");
+        let before = source.split(&beginning).next().unwrap_or("");
+        let attributes = before.rsplit(['}', ';']).next().unwrap_or("");
+        assert!(attributes.contains("#[repr(C)]"), "{name} is not laid out as in C: {attributes}");
+        numbers(braced(&source, &beginning), ',', "pub ", ": u32")
+    };
+    Structs { record: fields("Record"), sections: fields("Sections") }
 }
 
 /// The declarations of a Rust file's one `extern "C"` block.

@@ -4,7 +4,8 @@ mod declared;
 mod signatures;
 
 use declared::Header;
-use harness::station::{LAYOUTS, LONGEST_IMAGE, MOST_SECTORS, NO_PLACE};
+use harness::station::{LAYOUTS, LONGEST_FILE, LONGEST_HEAD, LONGEST_IMAGE, LONGEST_LABEL, MOST_ANSWERS};
+use harness::station::{MOST_SECTORS, MOST_TRACKS, NO_PLACE, TRACK_BYTES};
 use std::fs;
 use std::path::{Path, PathBuf};
 
@@ -28,11 +29,11 @@ fn header() -> Header {
     Header::new(&file("include/station.h"))
 }
 
-/// Where the crate exports so many numbers, C and Rust have records, by the fields that each declares for them.
+/// Where the crate exports so many numbers, C and Rust have structs, by the fields that each declares for them.
 #[test]
 fn the_header_declares_what_is_exported() {
-    let Header { prototypes, record, .. } = header();
-    let expected: Vec<String> = exported().iter().map(|function| function.in_c(record.len())).collect();
+    let Header { prototypes, structs, .. } = header();
+    let expected: Vec<String> = exported().iter().map(|function| function.in_c(&structs)).collect();
     assert!(!expected.is_empty(), "nothing is exported");
     assert_eq!(prototypes, expected, "left: include/station.h, right: what crates/station exports");
     println!("header: {} prototypes as exported", prototypes.len());
@@ -41,10 +42,10 @@ fn the_header_declares_what_is_exported() {
 #[test]
 fn the_declarations_in_rust_are_what_is_exported() {
     let source = file("include/station.rs");
-    let (declared, record) = (declared::rust(&source), declared::record_in_rust(&source));
-    let expected: Vec<String> = exported().iter().map(|function| function.in_rust(record.len())).collect();
+    let (declared, structs) = (declared::rust(&source), declared::structs_in_rust(&source));
+    let expected: Vec<String> = exported().iter().map(|function| function.in_rust(&structs)).collect();
     assert_eq!(declared, expected, "left: include/station.rs, right: what crates/station exports");
-    assert_eq!(record, header().record, "a record's numbers, left: include/station.rs, right: include/station.h");
+    assert_eq!(structs, header().structs, "the structs' numbers, left: include/station.rs, right: include/station.h");
     println!("header: {} declarations in Rust as exported", declared.len());
 }
 
@@ -91,21 +92,30 @@ fn constant(variant: &str) -> String {
     name
 }
 
-/// The equations `function Variant = number` of the specifications, as constants. They stand in one file.
-fn numbered(function: &str, prefix: &str) -> Vec<String> {
-    let equation = |line: &str| {
-        let (variant, number) = line.strip_prefix(function)?.strip_prefix(' ')?.split_once(" = ")?;
-        let plain = variant.chars().all(char::is_alphanumeric);
-        plain.then(|| format!("{prefix}{} = {number}", constant(variant)))
-    };
+/// A line `function Variant = number`, as variant and number.
+fn equation(line: &str, function: &str) -> Option<(String, String)> {
+    let (variant, number) = line.strip_prefix(function)?.strip_prefix(' ')?.split_once(" = ")?;
+    let is_plain = variant.chars().all(char::is_alphanumeric);
+    is_plain.then(|| (variant.to_string(), number.to_string()))
+}
+
+/// The specifications' equations of a function as constants. They stand in one file of each crate that is named with its
+/// prefix, and in no other.
+fn numbered(function: &str, prefixes: &[(&str, &str)]) -> Vec<String> {
     let crates = Path::new(env!("CARGO_MANIFEST_DIR")).join("../crates");
-    let mut found: Vec<Vec<String>> = Vec::new();
+    let mut files = Vec::new();
     for path in below(&crates, "antt") {
         let text = fs::read_to_string(&path).expect("a specification");
-        found.extend(Some(text.lines().filter_map(equation).collect()).filter(|found: &Vec<String>| !found.is_empty()));
+        let equations: Vec<_> = text.lines().filter_map(|line| equation(line, function)).collect();
+        files.extend(Some((path, equations)).filter(|(_, equations)| !equations.is_empty()));
     }
-    assert_eq!(found.len(), 1, "files with equations of {function}: {found:#?}");
-    found.remove(0)
+    assert_eq!(files.len(), prefixes.len(), "files with equations of {function}: {files:#?}");
+    let of = |(name, prefix): &(&str, &str)| -> Vec<String> {
+        let file = files.iter().find(|(path, _)| path.starts_with(crates.join(name)));
+        let equations = &file.unwrap_or_else(|| panic!("no equations of {function} in crates/{name}")).1;
+        equations.iter().map(|(variant, number)| format!("{prefix}{} = {number}", constant(variant))).collect()
+    };
+    prefixes.iter().flat_map(of).collect()
 }
 
 /// The sizes of include/station.rs as the header has them. That the library takes just these is a test in C.
@@ -120,7 +130,27 @@ fn sizes() -> Vec<String> {
     sizes.push(format!("STATION_MOST_SECTORS = {MOST_SECTORS}"));
     sizes.push(format!("STATION_LONGEST_AREA = {}", longest.expect("a layout")));
     sizes.push(format!("STATION_LONGEST_IMAGE = {LONGEST_IMAGE}"));
+    sizes.extend(file_sizes());
     sizes
+}
+
+/// Those of a file, which are added up here once more.
+fn file_sizes() -> [String; 6] {
+    let counts_and_names = 4 * 4 + LONGEST_LABEL + MOST_TRACKS * TRACK_BYTES;
+    let [first, second, ..] = LAYOUTS.map(|layout| layout.sectors + layout.area());
+    let longest = LAYOUTS[1..].iter().map(|layout| layout.sectors + layout.area()).max();
+    let in_all = counts_and_names + first + second + (MOST_TRACKS - 2) * longest.expect("a layout");
+    assert_eq!(MOST_ANSWERS, MOST_TRACKS * MOST_SECTORS, "the most answers");
+    assert_eq!(LONGEST_HEAD, counts_and_names + MOST_ANSWERS, "the most bytes before the data");
+    assert_eq!(LONGEST_FILE, in_all, "the most bytes of a file");
+    [
+        format!("STATION_LONGEST_LABEL = {LONGEST_LABEL}"),
+        format!("STATION_MOST_TRACKS = {MOST_TRACKS}"),
+        format!("STATION_TRACK_BYTES = {TRACK_BYTES}"),
+        format!("STATION_MOST_ANSWERS = {MOST_ANSWERS}"),
+        format!("STATION_LONGEST_HEAD = {LONGEST_HEAD}"),
+        format!("STATION_LONGEST_FILE = {LONGEST_FILE}"),
+    ]
 }
 
 #[test]
@@ -128,9 +158,9 @@ fn the_constants_are_the_specifications_numbers() {
     let constants = header().constants;
     let of =
         |prefix: &str| -> Vec<String> { constants.iter().filter(|text| text.starts_with(prefix)).cloned().collect() };
-    let refusals = numbered("refusalNumber", "STATION_REFUSED_");
-    let mut answers = numbered("answerNumber", "STATION_ANSWER_");
-    answers.extend(numbered("faultNumber", "STATION_ANSWER_"));
+    let refusals = numbered("refusalNumber", &[("calls", "STATION_REFUSED_"), ("file", "STATION_REFUSED_FILE_")]);
+    let mut answers = numbered("answerNumber", &[("answers", "STATION_ANSWER_")]);
+    answers.extend(numbered("faultNumber", &[("answers", "STATION_ANSWER_")]));
     assert_eq!(of("STATION_REFUSED_"), refusals, "left: include/station.h, right: refusalNumber");
     assert_eq!(of("STATION_ANSWER_"), answers, "left: include/station.h, right: answerNumber and faultNumber");
     let mut others: Vec<String> =

@@ -11,6 +11,20 @@ enum Kind {
     Array { element: String, count: String, written: bool },
 }
 
+/// The structs that C and Rust have where the crate has arrays, each by the names of its numbers.
+#[derive(Debug, PartialEq)]
+pub struct Structs {
+    pub record: Vec<String>,
+    pub sections: Vec<String>,
+}
+
+/// An array as the structs that it holds: their name in C and in Rust, and how many they are.
+struct Held {
+    in_c: &'static str,
+    in_rust: &'static str,
+    many: usize,
+}
+
 #[derive(Debug)]
 pub struct Function {
     pub name: String,
@@ -78,20 +92,24 @@ fn c_type(number: &str) -> &'static str {
     }
 }
 
-/// How many records of `fields` numbers an array holds, if its name says that it holds records.
-fn records(name: &str, element: &str, count: &str, fields: usize) -> Option<usize> {
-    let is_records = name == "record" || name.ends_with("records");
-    is_records.then(|| {
-        let numbers: usize = count.parse().expect("a count of numbers");
-        let is_whole = element == "u32" && fields > 0 && numbers % fields == 0;
-        assert!(is_whole, "{name}: [{element}; {count}] is no whole number of records with {fields} numbers each");
-        numbers / fields
-    })
+/// What an array holds, if its name says that it holds records or the sections of one file.
+fn held(name: &str, element: &str, count: &str, structs: &Structs) -> Option<Held> {
+    let (in_c, in_rust, fields) = match name {
+        "sections" => ("struct station_sections", "Sections", structs.sections.len()),
+        _ if name == "record" || name.ends_with("records") => ("struct station_record", "Record", structs.record.len()),
+        _ => return None,
+    };
+    let numbers: usize = count.parse().expect("a count of numbers");
+    let is_whole = element == "u32" && fields > 0 && numbers % fields == 0;
+    assert!(is_whole, "{name}: [{element}; {count}] is no whole number of {in_rust} with {fields} numbers each");
+    let many = numbers / fields;
+    assert!(name != "sections" || many == 1, "{name}: [{element}; {count}] is not one file's");
+    Some(Held { in_c, in_rust, many })
 }
 
 impl Function {
-    /// The prototype in C: a slice `image` is `image` and `image_length`, and records are structs of `fields` numbers.
-    pub fn in_c(&self, fields: usize) -> String {
+    /// The prototype in C: a slice `image` is `image` and `image_length`, and records and sections are structs.
+    pub fn in_c(&self, structs: &Structs) -> String {
         let constant = |written: &bool| if *written { "" } else { "const " };
         let parameter = |(name, kind): &(String, Kind)| match kind {
             Kind::Number(number) => format!("{} {name}", c_type(number)),
@@ -100,10 +118,10 @@ impl Function {
             }
             Kind::Array { element, count, written } => {
                 let constant = constant(written);
-                match records(name, element, count, fields) {
+                match held(name, element, count, structs) {
                     None => format!("{constant}{} {name}[{count}]", c_type(element)),
-                    Some(1) => format!("{constant}struct station_record *{name}"),
-                    Some(many) => format!("{constant}struct station_record {name}[{many}]"),
+                    Some(Held { in_c, many: 1, .. }) => format!("{constant}{in_c} *{name}"),
+                    Some(Held { in_c, many, .. }) => format!("{constant}{in_c} {name}[{many}]"),
                 }
             }
         };
@@ -112,17 +130,17 @@ impl Function {
     }
 
     /// The declaration in Rust, by the same rule.
-    pub fn in_rust(&self, fields: usize) -> String {
+    pub fn in_rust(&self, structs: &Structs) -> String {
         let pointer = |written: &bool| if *written { "*mut" } else { "*const" };
         let parameter = |(name, kind): &(String, Kind)| match kind {
             Kind::Number(number) => format!("{name}: {number}"),
             Kind::Slice { element, written } => format!("{name}: {} {element}, {name}_length: usize", pointer(written)),
             Kind::Array { element, count, written } => {
                 let pointer = pointer(written);
-                match records(name, element, count, fields) {
+                match held(name, element, count, structs) {
                     None => format!("{name}: {pointer} [{element}; {count}]"),
-                    Some(1) => format!("{name}: {pointer} Record"),
-                    Some(many) => format!("{name}: {pointer} [Record; {many}]"),
+                    Some(Held { in_rust, many: 1, .. }) => format!("{name}: {pointer} {in_rust}"),
+                    Some(Held { in_rust, many, .. }) => format!("{name}: {pointer} [{in_rust}; {many}]"),
                 }
             }
         };

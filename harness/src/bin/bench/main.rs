@@ -1,5 +1,6 @@
 //! Prints for each exported function the ratio Rattle / Rust: of executed instructions and, on an x86-64 processor, of
 //! time too (under an emulator a time says nothing). `bench --steps`: instructions only.
+mod file;
 mod measure;
 
 use harness::reference;
@@ -39,6 +40,8 @@ fn main() {
     pick(with_time);
     rewrite(with_time);
     edc_steps(with_time);
+    file::write(with_time);
+    file::read(with_time);
 }
 
 /// What a program writes. Also under an emulator the program is the machine's own.

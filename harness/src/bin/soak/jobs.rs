@@ -1,9 +1,11 @@
 //! The jobs of which each round does one.
 use crate::hostile;
 use harness::compare::read::Outcome;
-use harness::compare::{difference, format, pick, read, rewrite};
+use harness::compare::{difference, file, format, pick, read, rewrite};
+use harness::files::{self, hostile as hostile_files, Contents};
 use harness::reference::rewrite::{request, Plan};
 use harness::rng::Rng;
+use harness::station::MOST_TRACKS;
 use harness::tally::Tally;
 use harness::tracks::sketch::Data;
 use harness::tracks::worn::{self, LONGEST};
@@ -34,12 +36,13 @@ fn fields(rng: &mut Rng, track: Track) -> Vec<u8> {
 
 /// The work of one round.
 pub fn any(rng: &mut Rng) -> Vec<Tally> {
-    match rng.below(10) {
+    match rng.below(11) {
         0 => formatted(rng),
         1..=4 => vec![captured(rng)],
         5 | 6 => rewritten(rng),
         7 => two_passes(rng),
-        _ => hostile::calls(rng),
+        8 | 9 => hostile::calls(rng),
+        _ => sent(rng),
     }
 }
 
@@ -132,6 +135,32 @@ fn two_passes(rng: &mut Rng) -> Vec<Tally> {
     for sector in 1..=track.layout().sectors {
         call.sector = sector as u32;
         pick::compare(&mut tallies[1], rng, &call);
+    }
+    tallies.into()
+}
+
+/// Files are sent from bench to bench: one is written and read back, others are not what they should be.
+fn sent(rng: &mut Rng) -> Vec<Tally> {
+    const HOSTILE: usize = 20;
+    let (kind, hostile_file) = hostile_files::FILES[rng.below(hostile_files::FILES.len())];
+    let mut tallies = ["contents written and read back", "contents with any sections wrong", kind]
+        .map(|kind| Tally::new("file", kind));
+    let contents = match rng.below(10) {
+        0 => {
+            let count = rng.below(MOST_TRACKS + 1);
+            let tracks = files::tracks(rng, count);
+            Contents::new(rng, &tracks)
+        }
+        _ => files::small(rng),
+    };
+    let area = contents.file().len() + rng.below(3) * rng.below(500);
+    file::round_trip(&mut tallies[0], rng, &contents, area);
+    for _ in 0..HOSTILE {
+        let contents = hostile_files::contents(rng);
+        let area = hostile_files::area(rng, contents.file().len());
+        file::write(&mut tallies[1], rng, &contents, area);
+        let file = hostile_file(rng);
+        file::read(&mut tallies[2], rng, &file);
     }
     tallies.into()
 }

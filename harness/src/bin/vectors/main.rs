@@ -1,17 +1,21 @@
 //! Writes the kept vectors and the samples: `vectors FOLDER` fills FOLDER/vectors and FOLDER/samples. What the program
 //! has to print for a vector comes from the reference, and the literal reader has to agree; so do the records, which the
-//! program does not print in full. FOLDER/vectors/EDC has runs of bytes, each behind its EDC.
+//! program does not print in full. FOLDER/vectors/EDC has runs of bytes, each behind its EDC, and FOLDER/vectors/files has
+//! files of read cartridges, with what the reading answers in its INDEX.
+mod files;
 mod kept;
 mod runs;
 mod samples;
 
+use harness::files::{numbers, Contents};
 use harness::reference::dump::{dump, dump_by, records_by};
-use harness::reference::{annex, edc, plain, read};
+use harness::reference::{annex, edc, file, plain, plain_file, read};
+use harness::station::Sections;
 use std::error::Error;
 use std::fs;
 use std::path::Path;
 
-/// An input for the program that prints a track, and what it shows.
+/// An input for the program that prints a track, or a file, and what it shows.
 pub struct Vector {
     pub shows: String,
     pub input: Vec<u8>,
@@ -34,13 +38,48 @@ fn main() -> Result<(), Box<dyn Error>> {
     let runs: String = runs::all().iter().map(|bytes| behind_its_edc(bytes)).collect();
     fs::write(folder.join("vectors/EDC"), &runs)?;
     println!("{} runs of bytes with their EDC", runs.lines().count());
+    keep_files(&folder.join("vectors/files"))?;
 
     fs::create_dir_all(folder.join("samples"))?;
     for (name, input) in samples::all() {
         fs::write(folder.join("samples").join(name), &input)?;
         println!("{name}:\n{}", printed(&input));
     }
+    let cartridge = samples::cartridge();
+    fs::write(folder.join("samples/cartridge.file"), written(&cartridge))?;
+    println!("cartridge.file: {cartridge:?}");
     Ok(())
+}
+
+/// Each file, and the INDEX: a line with its name, the number and the eight numbers of its reading, and what it shows.
+fn keep_files(folder: &Path) -> Result<(), Box<dyn Error>> {
+    let mut index = String::new();
+    fs::create_dir_all(folder)?;
+    for (number, Vector { shows, input }) in files::all().into_iter().enumerate() {
+        fs::write(folder.join(format!("{number:04}.file")), &input)?;
+        index += &format!("{number:04} {} {shows}\n", answered(&input));
+    }
+    fs::write(folder.join("INDEX"), &index)?;
+    println!("{} files", index.lines().count());
+    Ok(())
+}
+
+/// The number of a file's reading, then place and count of each section.
+fn answered(input: &[u8]) -> String {
+    let (mut found, mut literal) = (Sections::default(), Sections::default());
+    let number = file::read(input, &mut found);
+    let numbers_agree = plain_file::read(input, &mut literal) == number;
+    assert!(numbers_agree && literal == found, "the literal reading and the reference");
+    let places: String = numbers(&found).iter().map(|number| format!(" {number}")).collect();
+    format!("{number}{places}")
+}
+
+/// The file with these contents.
+fn written(contents: &Contents) -> Vec<u8> {
+    let (mut area, mut length) = (vec![0; contents.file().len()], [0]);
+    let Contents { label, tracks, answers, data } = contents;
+    assert_eq!(file::write(label, tracks, answers, data, &mut area, &mut length), 0, "a right file");
+    area
 }
 
 fn printed(input: &[u8]) -> String {

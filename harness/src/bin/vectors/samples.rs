@@ -1,8 +1,15 @@
-//! A few tracks to try the program on: what a bench meets.
+//! A few tracks to try the program on, and a file of some: what a bench meets.
+use harness::files::{entry, Contents};
+use harness::reference::read::read;
+use harness::reference::records::has_bytes;
+use harness::station::Reading;
 use harness::tracks::damage::turn;
 use harness::tracks::{Track, FM};
 
 const TRACK: Track = Track { layout: 3, cylinder: 5, side: 1 };
+
+/// The other side of cylinder 0.
+const SECOND: Track = Track { layout: 1, cylinder: 0, side: 1 };
 
 pub fn all() -> Vec<(&'static str, Vec<u8>)> {
     let image = TRACK.formatted(&program(), &[0xFB; 8]);
@@ -62,9 +69,6 @@ fn open(image: &[u8]) -> Vec<u8> {
 
 /// Cylinder 0, side 0, with text in some sectors; the last eight are control records, which begin with D.
 fn first_track() -> Vec<u8> {
-    let layout = FM.layout();
-    let mut marks = vec![0xFB; layout.sectors];
-    marks[18..].fill(0xF8);
     let text = |sector: usize| match sector {
         5 => "ERMAP".to_string(),
         7 => "VOL1SHOP47".to_string(),
@@ -72,6 +76,44 @@ fn first_track() -> Vec<u8> {
         _ if sector > 18 => format!("DDR1UNUSED{sector:02}"),
         _ => String::new(),
     };
-    let sectors = (1..=layout.sectors).map(|sector| format!("{:<128}", text(sector)));
-    FM.formatted(&sectors.collect::<String>().into_bytes(), &marks)
+    labels(FM, 18, text)
+}
+
+/// Cylinder 0, side 1: labels of files that there are, and of none. A cell in the block of sector 4 is wrong.
+fn second_track() -> Vec<u8> {
+    let text = |sector: usize| match sector {
+        1 => "HDR1AXISTABLE".to_string(),
+        2 => "HDR1TOOLS".to_string(),
+        3..=22 => format!("HDR1PART{sector:02}"),
+        _ => format!("DDR1UNUSED{sector:02}"),
+    };
+    let mut image = labels(SECOND, 22, text);
+    turn(&mut image, 8 * (SECOND.places(4).1 + 8 + 2 * 5) + 1);
+    image
+}
+
+/// A track of texts, with control marks behind so many sectors.
+fn labels(track: Track, data: usize, text: impl Fn(usize) -> String) -> Vec<u8> {
+    let layout = track.layout();
+    let mut marks = vec![0xFB; layout.sectors];
+    marks[data..].fill(0xF8);
+    let sectors = (1..=layout.sectors).map(|sector| format!("{:<width$}", text(sector), width = layout.size));
+    track.formatted(&sectors.collect::<String>().into_bytes(), &marks)
+}
+
+/// What goes to a second bench: three tracks of a cartridge as they were read, the last of them worn.
+pub fn cartridge() -> Contents {
+    let worn = worn(&TRACK.formatted(&program(), &[0xFB; 8]));
+    let mut contents = Contents::default().labelled(b"LATHE 3, AXIS TABLE");
+    for (track, image) in [(FM, first_track()), (SECOND, second_track()), (TRACK, worn)] {
+        let layout = track.layout();
+        let (mut area, mut reading) = (vec![0; layout.area_bytes()], Reading::default());
+        assert_eq!(read(track.layout, track.cylinder, track.side, &image, &mut area, &mut reading), 0);
+        contents.tracks.extend(entry(track));
+        for (slot, record) in area.chunks(layout.size).zip(reading.records) {
+            contents.answers.push(record.answer as u8);
+            contents.data.extend(slot.iter().filter(|_| has_bytes(record.answer)));
+        }
+    }
+    contents
 }
