@@ -14,6 +14,8 @@ pub mod Doors
 pub mod Calling
 -- where on the track
 pub mod Places
+-- the file of a read cartridge
+pub mod filing
 -- the facts
 pub mod Facts
 -- each contract allows one outcome

@@ -23,6 +23,11 @@ use Rattle.walk.specs.Outcomes.{IsRound}
 use Rattle.locate.specs.Outcomes.{Locates}
 use Rattle.layouts.specs.declared.Track.{Track}
 use Rattle.pick.specs.Picks.{IsChosen, IsPicked, IsStretch}
+use Rattle.file.specs.Contents.{Content}
+use Rattle.file.specs.Outcomes.{IsRefusalNumber as IsFileRefusalNumber, IsHead, IsWhole, IsRead, Writes}
+use Rattle.file.specs.declared.Judged.{Judged}
+use Rattle.file.specs.declared.Refusal.{Refusal as FileRefusal}
+use Rattle.file.specs.declared.Written.{Written}
 use Rattle.answers.specs.declared.Record.{Record}
 use Rattle.answers.specs.declared.Fault.{Fault}
 use Rattle.answers.specs.declared.Answer.{Answer}
@@ -33,6 +38,7 @@ use Rattle.request.specs.Outcomes.{Requests}
 use Rattle.rewrite.specs.declared.Plan.{Plan}
 use Rattle.rewrite.specs.declared.Stepped.{Stepped}
 use Rattle.station.specs.Outcomes.{GivesEdc, GivesCoded, GivesDataByte, GivesFormat, GivesRead, GivesPick, GivesRequest, GivesStep}
+use Rattle.station.specs.Files.{GivesFileRead, GivesFileWrite}
 use Rattle.promises.specs.Unique.{Unique}
 
 -- A relation that gives the outcome as a value.
@@ -218,6 +224,24 @@ step plan mark contents before x y p q = by-values _ _ x y (p .answers, p .leave
 pub request : (layout cylinder side sector mark : ℕ) (contents image : List ℕ) → Unique (Requests layout cylinder side sector mark contents image)
 request layout cylinder side sector mark contents image = by-value _
 
+-- ---- file
+
+-- refusal_number, head, whole, read and write of the file
+pub file-refusal-number : (refusal : FileRefusal) → Unique (IsFileRefusalNumber refusal)
+file-refusal-number refusal = by-value _
+
+pub file-head : (file : List ℕ) → Unique (IsHead file)
+file-head file = by-value _
+
+pub file-whole : (head : Judged) (bytes : ℕ) → Unique (IsWhole head bytes)
+file-whole head bytes = by-value _
+
+pub file-read : (file : List ℕ) → Unique (IsRead file)
+file-read file = by-value _
+
+pub file-write : (content : Content) (room : ℕ) → Unique (λ (o : Written × List ℕ). Writes content room (o .0) (o .1))
+file-write content room x y p q = by-values _ _ x y (p .answers, p .leaves) (q .answers, q .leaves)
+
 -- ---- station
 
 pub station-edc : (bytes : List ℕ) → Unique (GivesEdc bytes)
@@ -262,3 +286,10 @@ pub station-step : (before : List ℕ) (mark : ℕ) (contents image : List ℕ)
     → Unique (λ (o : ℕ × List ℕ × List ℕ). GivesStep before mark contents image (o .0) (o .1) (o .2))
 station-step before mark contents image x y p q =
     all-three (p .numbered ∙ sym (q .numbered)) (p .moves ∙ sym (q .moves)) (p .leaves ∙ sym (q .leaves))
+
+pub station-file-write : (content : Content) (room : ℕ) → Unique (λ (o : ℕ × List ℕ × List ℕ). GivesFileWrite content room (o .0) (o .1) (o .2))
+station-file-write content room x y p q =
+    all-three (p .numbered ∙ sym (q .numbered)) (p .leaves ∙ sym (q .leaves)) (p .counted ∙ sym (q .counted))
+
+pub station-file-read : (file : List ℕ) → Unique (λ (o : ℕ × List ℕ). GivesFileRead file (o .0) (o .1))
+station-file-read file x y p q = by-values _ _ x y (p .numbered, p .placed) (q .numbered, q .placed)

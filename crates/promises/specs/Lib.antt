@@ -12,6 +12,8 @@ pub mod Rewriting
 pub mod Doors
 -- Where on the track (02, Req 01).
 pub mod Places
+-- The file of a read cartridge (02, Req 03).
+pub mod Files
 -- The facts that 01 marks P, and what a contract settles.
 pub mod Facts
 pub mod Unique
