@@ -1,10 +1,11 @@
 /*
- * Reads a captured track from a file, then formats and rewrites one in memory. On x86-64, from the repository's root:
+ * Reads a captured track from a file, makes a file for another bench of what was read, then formats and rewrites a track in memory. On x86-64,
+ * from the repository's root:
  *
  *     cc -std=c99 -Iinclude examples/c/main.c target/staticlib/libstation.a -o target/example
  *     target/example samples/worn.in
  *
- * The file has the layout, the cylinder and the side, one byte each, and then the track's image.
+ * The captured file has the layout, the cylinder and the side, one byte each, and then the track's image.
  * Exit status: 0 all was printed; 1 a call was refused; 2 wrong words, or a file that can't be read or written.
  */
 #include "station.h"
@@ -27,6 +28,7 @@ enum { BYTES = STATION_BYTES_1, AREA = STATION_SECTORS_1 * STATION_BYTES_1 };
 
 /* Large, so not on the stack. The library itself keeps nothing: all that it works on is lent by the caller. */
 static uint8_t file[3 + STATION_LONGEST_IMAGE + 1], area[STATION_LONGEST_AREA], image[STATION_IMAGE_1];
+static uint8_t data[STATION_LONGEST_AREA], sent[STATION_LONGEST_FILE];
 
 /* Only 1 and 2 come with bytes; in every other case the slot is zeros, which must not be taken for data. */
 static int usable(uint32_t answer) {
@@ -69,6 +71,42 @@ static void show_refused(size_t sector, struct station_record record, uint32_t c
     printf("\n");
 }
 
+/* All answers in a byte each, and in `data`, one after the other, the slots that come with bytes. Gives how many bytes these are. */
+static size_t gather(const struct station_record *records, size_t sectors, size_t bytes, uint8_t *answers) {
+    size_t sector, length = 0;
+    for (sector = 1; sector <= sectors; sector++) {
+        uint32_t answer = records[sector - 1].answer;
+        answers[sector - 1] = (uint8_t)answer;
+        if (usable(answer)) {
+            memcpy(data + length, area + (sector - 1) * bytes, bytes);
+            length += bytes;
+        }
+    }
+    return length;
+}
+
+/* What was read of the captured track, as a file for another bench. */
+static int file_captured(const struct station_record *records, size_t sectors, size_t bytes) {
+    const char *label = "for the second bench";
+    uint8_t track[STATION_TRACK_BYTES] = {file[1], file[2], file[0]}, answers[STATION_MOST_SECTORS];
+    size_t data_length = gather(records, sectors, bytes, answers);
+    struct station_sections sections;
+    uint32_t length[1];
+    if (refused("the file", station_file_write((const uint8_t *)label, strlen(label), track, sizeof track, answers, sectors, data, data_length,
+                                               sent, sizeof sent, length)))
+        return 0;
+
+    /* at the other bench: nothing in these bytes is to be trusted before they are read */
+    if (refused("the file that was sent", station_file_read(sent, length[0], &sections)))
+        return 0;
+    printf("file of %u bytes: label at %u, tracks at %u, answers at %u, data at %u\n", (unsigned)length[0], (unsigned)sections.label_place,
+           (unsigned)sections.tracks_place, (unsigned)sections.answers_place, (unsigned)sections.data_place);
+    printf("it holds %u track, %u answers and %u bytes of data\n", (unsigned)sections.tracks_count, (unsigned)sections.answers_count,
+           (unsigned)sections.data_count);
+    printf("without its last byte it is refused: %u\n", station_file_read(sent, length[0] - 1, &sections));
+    return 1;
+}
+
 static int show_captured(size_t length) {
     uint32_t layout = file[0], cylinder = file[1], side = file[2], counts[2];
     struct station_record records[STATION_MOST_SECTORS];
@@ -87,7 +125,7 @@ static int show_captured(size_t length) {
             show_refused(sector, record, 8 * LAYOUTS[layout].image);
     }
     printf("identifiers: %u with a wrong EDC, %u of other tracks\n", (unsigned)counts[0], (unsigned)counts[1]);
-    return 1;
+    return file_captured(records, sectors, bytes);
 }
 
 /* What one sector of the track in memory answers: layout 1, cylinder 5, side 0. */

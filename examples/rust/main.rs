@@ -1,9 +1,10 @@
-//! Reads a captured track from a file, then formats and rewrites one in memory. On x86-64, from the repository's root:
+//! Reads a captured track from a file, makes a file for another bench of what was read, then formats and rewrites a track
+//! in memory. On x86-64, from the repository's root:
 //!
 //!     rustc --edition 2021 -L native=target/staticlib examples/rust/main.rs -o target/example
 //!     target/example samples/worn.in
 //!
-//! The file has the layout, the cylinder and the side, one byte each, and then the track's image.
+//! The captured file has the layout, the cylinder and the side, one byte each, and then the track's image.
 //! Exit status: 0 all was printed; 1 a call was refused; 2 wrong words, or a file that can't be read or written.
 use std::fmt::{self, Display};
 use std::io::{self, Read, Write};
@@ -13,7 +14,7 @@ use std::process::ExitCode;
 #[path = "../../include/station.rs"]
 mod station;
 
-use station::{Layout, Reading, Record, DATA_MARK, LAYOUTS, LONGEST_IMAGE, NO_PLACE};
+use station::{Layout, Reading, Record, Sections, DATA_MARK, LAYOUTS, LONGEST_FILE, LONGEST_IMAGE, NO_PLACE};
 
 /// Why the program ends early.
 enum Failure {
@@ -88,6 +89,31 @@ fn show_refused(out: &mut impl Write, sector: usize, record: Record, cells_of_a_
     writeln!(out)
 }
 
+/// What was read of the captured track, as a file for another bench: all answers, and one after the other the slots that
+/// come with bytes.
+fn file_captured(out: &mut impl Write, track: Track, area: &[u8], records: &[Record]) -> Result<(), Failure> {
+    let label = b"for the second bench";
+    let entry = [track.cylinder as u8, track.side as u8, track.layout as u8];
+    let answers: Vec<u8> = records.iter().map(|record| record.answer as u8).collect();
+    let slots = area.chunks(track.sizes().bytes).zip(records);
+    let data = slots.filter(|(_, record)| usable(record.answer)).map(|(slot, _)| slot).collect::<Vec<_>>().concat();
+    let (mut sent, mut length) = (vec![0; LONGEST_FILE], [0]);
+    served("the file", station::file_write(label, &entry, &answers, &data, &mut sent, &mut length))?;
+    sent.truncate(length[0] as usize);
+
+    // at the other bench: nothing in these bytes is to be trusted before they are read
+    let mut sections = Sections::default();
+    served("the file that was sent", station::file_read(&sent, &mut sections))?;
+    let Sections { label_place, tracks_place, answers_place, data_place, .. } = sections;
+    write!(out, "file of {} bytes: label at {label_place}, tracks at {tracks_place}", sent.len())?;
+    writeln!(out, ", answers at {answers_place}, data at {data_place}")?;
+    let Sections { tracks_count, answers_count, data_count, .. } = sections;
+    writeln!(out, "it holds {tracks_count} track, {answers_count} answers and {data_count} bytes of data")?;
+    let number = station::file_read(&sent[..sent.len() - 1], &mut sections);
+    writeln!(out, "without its last byte it is refused: {number}")?;
+    Ok(())
+}
+
 fn show_captured(out: &mut impl Write, track: Track, image: &[u8]) -> Result<(), Failure> {
     let (area, reading) = track.read("the captured track", image)?;
     writeln!(out, "captured: layout {}, cylinder {}, side {}", track.layout, track.cylinder, track.side)?;
@@ -101,7 +127,7 @@ fn show_captured(out: &mut impl Write, track: Track, image: &[u8]) -> Result<(),
     }
     let [bad, foreign] = reading.counts;
     writeln!(out, "identifiers: {bad} with a wrong EDC, {foreign} of other tracks")?;
-    Ok(())
+    file_captured(out, track, &area, &reading.records[..sizes.sectors])
 }
 
 fn rewrite_in_memory(out: &mut impl Write) -> Result<(), Failure> {
