@@ -26,6 +26,55 @@ run_program() { # PROGRAM WORDS..
     ${emulator:+"$emulator"} "$loader" --library-path "$libraries" "$@"
 }
 
+# All that a script does which has PROGRAM print the one input that WORDS name: it prints and exits. The script is in bash, has a function `usage`, and has
+# noted whether it was given an input and an output (has_input, has_output). WHOLE is a pattern for what PROGRAM prints where all went well, a WHAT.
+print_input() { # PROGRAM WHAT WHOLE WORDS..
+    program=$1 what=$2 whole=$3
+    shift 3
+    [ -n "$has_output" ] || give_up "standard output is closed"
+    case ${1-} in
+    -h | --help)
+        usage || give_up "the output could not be written"
+        exit
+        ;;
+    --) shift ;;
+    -?*)
+        say "there is no option $1 (a file of that name is ./$1)"
+        usage >&2
+        exit 2
+        ;;
+    esac
+    [ $# -le 1 ] || { usage >&2; exit 2; }
+
+    # the standard input is used where it stands; a file is opened once, since it may be a pipe
+    from=${1--}
+    if [ "$from" = - ]; then
+        from="the standard input"
+        [ -n "$has_input" ] || give_up "standard input is closed"
+    elif ! { exec <"$from"; } 2>/dev/null; then
+        why=$({ : <"$from"; } 2>&1)
+        give_up "can't read $from: ${why##*: }"
+    fi
+
+    find_kit
+    build program "$program" || exit
+    # a program in Rattle has no exit status: what it printed tells how it went, and it has said itself what could not be read
+    text=$(run_program "$root/target/bin/$program") && ended=0 || ended=$?
+    # shellcheck disable=SC2254
+    case $ended:$text in
+    0:$whole) status=0 ;;
+    0:"refused "*) status=1 ;;
+    *) give_up "no $what was printed, from $from" ;;
+    esac
+    {
+        why=$(cat 2>&1 >&3 <<END
+$text
+END
+        ) || give_up "the output could not be written${why:+: ${why##*: }}"
+    } 3>&1
+    exit "$status"
+}
+
 # The crates that NAME is made of, each behind those that it stands on.
 crates_of() { # NAME
     awk -v wanted="$1" '

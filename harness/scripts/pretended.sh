@@ -5,8 +5,8 @@ mkdir -p "$copy/harness" "$copy/examples" "$copy/elsewhere" "$pretended/bin" "$p
 mkdir -p "$pretended/on/$(uname -m)/toolchain/bin"
 cp -R "$root/bin" "$copy/bin"
 cp "$root"/harness/*.sh "$copy/harness" && cp "$root/examples/run.sh" "$copy/examples"
-printf 'one:\ntwo: one # above it\ndump: one two io libc\nstation: two\nother: one\n' >"$copy/crates.txt"
-for crate in one two dump station other; do
+printf 'one:\ntwo: one # above it\ndump: one two io libc\ncartridge_file: two io\nstation: two\nother: one\n' >"$copy/crates.txt"
+for crate in one two dump cartridge_file station other; do
     mkdir -p "$copy/crates/$crate/src" "$copy/crates/$crate/must-fail"
     echo "$crate" >"$copy/crates/$crate/src/lib.rt"
 done
@@ -30,11 +30,11 @@ refuses:*)
     echo "fn one::f: proved"
     echo "rt: one proved (unchanged since it was last proved)"
     echo "rt: two proved (4 s)"
-    [ "$2" = dump ] || exit 0
-    echo "rt: dump proved (5 s)"
+    case $2 in dump | cartridge_file) ;; *) exit 0 ;; esac
+    echo "rt: $2 proved (5 s)"
     [ "${PRETENDED:-proves}" != forgets ] || exit 0
-    mkdir -p target/bin && cp "$kit/program" target/bin/dump
-    echo "rt: dump ran as nobody, and wrote what its file 'stdout' has (0 s)"
+    mkdir -p target/bin && cp "$kit/program" "target/bin/$2"
+    echo "rt: $2 ran as nobody, and wrote what its file 'stdout' has (0 s)"
     ;;
 *:staticlib)
     echo "rt: one proved (unchanged since it was last proved)" >&2
@@ -51,6 +51,9 @@ refuses) echo "refused 4" ;;
 is-cut) printf 'track 1 0 0\n1 21\n' ;;
 is-silent) ;;
 babbles) echo "tracks" ;;
+prints-file) echo "label \"$(wc -c)\"" && echo "tracks 0, sectors 0, data bytes 0" ;;
+is-cut-file) printf 'label "tracks 1"\ncylinder 1 side 0 layout 3: 1 1' ;;
+fails-file) printf 'label ""\ntracks 0, sectors 0, data bytes 0\n' && exit 3 ;;
 dies) printf 'track 1 0 0\nidents 0 0\n' && kill -9 $$ ;;
 fails) printf 'track 1 0 0\nidents 0 0\n' && exit 3 ;;
 esac
@@ -113,6 +116,7 @@ done
 without_kit() { (cd "$copy" && PATH=$work/tools && "$@"); }
 no_kit="the Rattle kit is needed, and its command rt is not on the path \\(PATH\\) "
 try "dump without a kit" 2 "" "bin/dump: $no_kit" without_kit bin/dump five
+try "cartridge-file without a kit" 2 "" "bin/cartridge-file: $no_kit" without_kit bin/cartridge-file five
 try "vectors without a kit" 2 "" "bin/vectors: $no_kit" without_kit bin/vectors "$root/vectors"
 try "harness without a kit" 2 "" "harness/run.sh: $no_kit" without_kit harness/run.sh
 try "examples without a kit" 2 "" "examples/run.sh: $no_kit" without_kit examples/run.sh
@@ -139,6 +143,23 @@ PROGRAM=babbles try "something else" 2 "" "bin/dump: no track was printed, from 
 PROGRAM=fails try "a track, and a status" 2 "" "bin/dump: no track was printed, from five " dump five
 PROGRAM=dies try "a track, and a signal" 2 "" ".*bin/dump: no track was printed, from five " dump five
 
+# the other program: its script does the same, by the same function
+file() { from "$copy" bin/cartridge-file "$@"; }
+printf 'label "5"\ntracks 0, sectors 0, data bytes 0\n' >"$work/five-file.out"
+PROGRAM=prints-file try "a cartridge's file, and its build" 0 "$work/five-file.out" \
+    "bin/cartridge-file: building cartridge_file, .*: to be proved: one two cartridge_file .*: proved: cartridge_file \\(5 s\\), 0 of 3 left " file five
+PROGRAM=prints-file try "it is not built again" 0 "$work/five-file.out" "" file <"$copy/five"
+ln -s "../bin/cartridge-file" "$copy/elsewhere/file"
+PROGRAM=prints-file try "a cartridge's file through a link" 0 "$work/five-file.out" "" from "$copy/elsewhere" ./file link
+PROGRAM=prints-file try "a file for a track" 2 "" "bin/dump: no track was printed, from five " dump five
+PROGRAM=refuses try "a refused file" 1 "$work/refused.out" "" file five
+PROGRAM=is-cut-file try "half a file" 2 "" "bin/cartridge-file: no file was printed, from five " file five
+PROGRAM=is-silent try "nothing of a file" 2 "" "bin/cartridge-file: no file was printed, from the standard input " file <"$copy/five"
+PROGRAM=prints try "a track for a file" 2 "" "bin/cartridge-file: no file was printed, from five " file five
+PROGRAM=fails-file try "a file, and a status" 2 "" "bin/cartridge-file: no file was printed, from five " file five
+echo changed >"$copy/crates/cartridge_file/src/lib.rt"
+PRETENDED=refuses try "a cartridge's file, where the build fails" 2 "" ".* bin/cartridge-file: cartridge_file could not be built; .* " file five
+
 # words
 usage_of() { PATH=$pretended/bin:$PATH "$@" >"$work/usage.out" 2>/dev/null; }
 usage_of "$copy/bin/dump" --help
@@ -148,6 +169,12 @@ try "dump --help through a link" 0 "$work/usage.out" "" from "$copy/elsewhere" .
 try "dump --help, and a full disk" 2 "" ".*bin/dump: the output could not be written " eval 'dump --help >/dev/full'
 try "dump with two files" 2 "" "usage: bin/dump .*" dump five five
 try "dump with an option that it has not" 2 "" "bin/dump: there is no option --five .*usage: bin/dump .*" dump --five
+usage_of "$copy/bin/cartridge-file" --help
+looks "cartridge-file --help says how it ends" grep -q "^Exit status: 0 .* 1 .* 2 " "$work/usage.out"
+try "cartridge-file -h" 0 "$work/usage.out" "" file -h
+try "cartridge-file --help, and a full disk" 2 "" ".*bin/cartridge-file: the output could not be written " eval 'file --help >/dev/full'
+try "cartridge-file with two files" 2 "" "usage: bin/cartridge-file .*" file five five
+try "cartridge-file with an option that it has not" 2 "" "bin/cartridge-file: there is no option --five .*usage: bin/cartridge-file .*" file --five
 usage_of "$copy/harness/run.sh" --help
 looks "harness --help says what there is" grep -q "harness/run.sh soak SEED ROUNDS" "$work/usage.out"
 before=$(cat "$pretended/calls" | wc -l)
