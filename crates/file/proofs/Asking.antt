@@ -18,7 +18,7 @@ use Rattle.layouts.proofs.Tracks.{track-known}
 use Rattle.calls.specs.declared.Refusal as calls
 use Rattle.file.specs.declared.Asked.{Asked}
 use Rattle.file.specs.declared.Asked.the-variants.{Asks, Wrong}
-use Rattle.file.specs.Contents.{Entry, entries, isTrack, all, before, rising, isTrackList, sectorsOf}
+use Rattle.file.specs.Contents.{Entry, entries, isTrack, all, rising, isTrackList, sectorsOf}
 use Rattle.file.specs.Turns.{tracksAsk}
 
 -- ---- what a section asked tells of it

@@ -19,7 +19,7 @@ use Rattle.file.specs.declared.Refusal.{Refusal}
 use Rattle.file.specs.declared.Refusal.the-variants.{PastEnd, LabelOrTracks, AnswerBytes, DataCount}
 use Rattle.file.specs.declared.Section.{Section}
 use Rattle.file.specs.Contents.{longestLabel, mostTracks, trackWidth, entries, sectorsOf, carriedBytes}
-use Rattle.file.specs.Sections.{countWidth, countAt, sectionAt, end, held, labelIn, tracksIn, answersIn, dataIn, sectionsIn}
+use Rattle.file.specs.Sections.{countAt, sectionAt, end, held, labelIn, tracksIn, answersIn, dataIn, sectionsIn}
 use Rattle.file.specs.Refusals.{endTest, listTest, numbersTest, labelTests, tracksTests, answersTests, dataTests, headTests, wholeTests}
 use Rattle.file.specs.Outcomes.{headAnswer, wholeAnswer, readTests, readAnswer}
 use Rattle.file.specs.Turns.{outside, countTests, sectionTests}

@@ -1,6 +1,6 @@
 -- How long a file is, and how it comes into an area, section by section.
 use mathlib.Core.Path.{_≡_, sym, ap, ap₂, _∙_}
-use mathlib.Core.List.{List, [], _∷_, _++_, append-assoc, append-nil}
+use mathlib.Core.List.{List, _++_, append-assoc, append-nil}
 use Prim.Native.Nat.{ℕ, suc, _+_, _-_, _≤_, _/_, _%_}
 use native.Mathlib.Nat.{zero-add}
 use native.Mathlib.Omega.{arith}

@@ -1,11 +1,10 @@
 -- What each public function of this crate promises.
-use mathlib.Core.List.{List, [], _∷_, _++_}
+use mathlib.Core.List.{List, _++_}
 use mathlib.Core.Path.{_≡_}
 use Prim.Native.Nat.{ℕ, _-_}
 use lib.ListN.{length, replicate}
 use Rattle.verdicts.specs.Tests.{Test, passed, refusal, by}
 use Rattle.file.specs.declared.Refusal.{Refusal}
-use Rattle.file.specs.declared.Sections.{Sections}
 use Rattle.file.specs.declared.Judged.{Judged}
 use Rattle.file.specs.declared.Judged.the-variants as judged
 use Rattle.file.specs.declared.Written.{Written}

@@ -1,6 +1,6 @@
 -- Why a file is not read, or not written (02, Req 03): 31 to 36. Each list of tests is in file order; of each section the count is judged, then the
 -- length, and then what it holds.
-use mathlib.Core.Bool.{Bool, not}
+use mathlib.Core.Bool.{not}
 use mathlib.Core.List.{List, [], _∷_, _++_}
 use Prim.Native.Nat.{ℕ, _+_, _/_}
 use lib.Dec.{ltb, eqb}

@@ -5,10 +5,11 @@ use Prim.Native.Nat.{ℕ, _+_, _*_, _≤_}
 use lib.Dec.{ltb}
 use lib.ListN.{length}
 use Rattle.verdicts.specs.Tests.{Test}
+use Rattle.layouts.specs.Layouts.{mostSectors}
 use Rattle.file.specs.declared.Refusal.{Refusal}
 use Rattle.file.specs.declared.Asked.{Asked}
 use Rattle.file.specs.declared.Asked.the-variants.{Asks, Wrong}
-use Rattle.file.specs.Contents.{Content, Entry, mostTracks, trackWidth, all, isAnswer, isTrackList, entries, sectorsOf, carrying, carriedBytes}
+use Rattle.file.specs.Contents.{Content, Entry, longestLabel, mostTracks, trackWidth, all, isAnswer, isTrackList, entries, sectorsOf, carrying, carriedBytes}
 use Rattle.file.specs.Sections.{countWidth, countAt, sectionAt, end}
 use Rattle.file.specs.Refusals.{endTest, answersTest, numbersTest, dataTest, roomTest}
 
@@ -48,9 +49,9 @@ answersOn content room =
     ∷ []
 
 -- The sections are short enough that their lengths add up. Those of every content that has a file are.
-abbrev pub Modest : Content → Type 0
-Modest content =
-    (length (content .label) ≤ 80)
+abbrev pub Short : Content → Type 0
+Short content =
+    (length (content .label) ≤ longestLabel)
     × (length (content .tracks) ≤ trackWidth * mostTracks)
-    × (length (content .answers) ≤ 3900)
-    × (length (content .«data») ≤ 3993600)
+    × (length (content .answers) ≤ mostTracks * mostSectors)
+    × (length (content .«data») ≤ mostTracks * mostSectors * 1024)

@@ -7,7 +7,7 @@ ghost use mathlib.Core.Bool.{cond};
 ghost use mathlib.Core.Path.{_≡_};
 ghost use Prim.Native.Nat.{_+_, _*_, _≤_};
 ghost use lib.ListN.{length};
-ghost use Rattle.layouts.specs.Layouts.{layoutOf};
+ghost use Rattle.layouts.specs.Layouts.{layoutOf, mostSectors};
 ghost use Rattle.answers.specs.Answers.{answerOf, carries};
 ghost use Rattle.file.specs.Contents.{mostTracks, trackWidth, entries, isTrack, isAnswer, sectorsOf};
 ghost use Rattle.file.specs.Turns.{tracksAsk, answersAsk, carryingAsk};
@@ -90,7 +90,7 @@ fn bearing(number: u8) -> u8
 // How many of the answers of one track carry bytes. All are gone over, the wrong ones too, and counted in a byte: so the back end takes many
 // at once, and a wrong one is rare.
 fn carrying_asked(answers: &[u8]) -> Asked
-    requires { ⌜ length (now answers) ≤ 26 ⌝ }
+    requires { ⌜ length (now answers) ≤ mostSectors ⌝ }
     ensures { λ r. ⌜ r ≡ carryingAsk (now (answers .entry)) ⌝ }
 {
     let mut carrying: u8 = 0;

@@ -11,7 +11,7 @@ use super::Sections;
 use super::TRACK_WIDTH;
 use super::lists::answers_asked;
 use super::lists::tracks_asked;
-ghost use mathlib.Core.List.{[], _∷_, _++_};
+ghost use mathlib.Core.List.{_++_};
 ghost use mathlib.Core.Path.{_≡_};
 ghost use Prim.Native.Nat.{_+_, _*_, _≤_};
 ghost use lib.ListN.{length};
@@ -19,8 +19,8 @@ ghost use Rattle.verdicts.specs.Tests.{refusal, by};
 ghost use Rattle.file.specs.declared.Opened.the-variants as opened;
 ghost use Rattle.file.specs.declared.Judged.the-variants as judged;
 ghost use Rattle.file.specs.Contents.{longestLabel, mostTracks, trackWidth, entries, sectorsOf, carriedBytes};
-ghost use Rattle.file.specs.Sections.{countAt, sectionAt, end as endOf, held, labelIn, tracksIn, answersIn, sectionsIn};
-ghost use Rattle.file.specs.Refusals.{endTest, answersTests, dataTests, headTests, tracksTests, wholeTests};
+ghost use Rattle.file.specs.Sections.{countWidth, countAt, sectionAt, end as endOf, held, labelIn, tracksIn, answersIn, sectionsIn};
+ghost use Rattle.file.specs.Refusals.{answersTests, dataTests, headTests, tracksTests, wholeTests};
 ghost use Rattle.file.specs.Turns.{countTests, sectionTests};
 
 // Four bytes as a number, most significant first.
@@ -115,7 +115,7 @@ fn from_data(file: &[u8], label: Section, tracks: Section, answers: Section, byt
 
 // The answers, behind the tracks.
 fn from_answers(file: &[u8], label: Section, tracks: Section, sectors: usize) -> Judged
-    requires { ⌜ (label ≡ labelIn (now file)) × (tracks ≡ tracksIn (now file)) × (endOf trackWidth tracks ≤ length (now file)) × (tracks .place ≤ 88) × (tracks .count ≤ mostTracks) × (sectors ≡ sectorsOf (entries (held trackWidth tracks (now file)))) ⌝ }
+    requires { ⌜ (label ≡ labelIn (now file)) × (tracks ≡ tracksIn (now file)) × (endOf trackWidth tracks ≤ length (now file)) × (tracks .place ≤ 2 * countWidth + longestLabel) × (tracks .count ≤ mostTracks) × (sectors ≡ sectorsOf (entries (held trackWidth tracks (now file)))) ⌝ }
     ensures { λ r. ⌜ r ≡ by (refusal (answersTests (now (file .entry)) ++ dataTests (now (file .entry)))) (judged.Found (sectionsIn (now (file .entry)))) judged.Refused ⌝ }
 {
     let at = end_of(tracks, TRACK_WIDTH);
@@ -133,7 +133,7 @@ fn from_answers(file: &[u8], label: Section, tracks: Section, sectors: usize) ->
 
 // The tracks, behind the label.
 fn from_tracks(file: &[u8], label: Section) -> Judged
-    requires { ⌜ (label ≡ labelIn (now file)) × (endOf 1 label ≤ 84) ⌝ }
+    requires { ⌜ (label ≡ labelIn (now file)) × (endOf 1 label ≤ countWidth + longestLabel) ⌝ }
     ensures { λ r. ⌜ r ≡ by (refusal (tracksTests (now (file .entry)) ++ (answersTests (now (file .entry)) ++ dataTests (now (file .entry))))) (judged.Found (sectionsIn (now (file .entry)))) judged.Refused ⌝ }
 {
     let at = end_of(label, 1);

@@ -14,13 +14,13 @@ ghost use Prim.Native.Nat.{_+_, _*_, _≤_};
 ghost use lib.ListN.{length};
 ghost use Rattle.verdicts.specs.Tests.{refusal, by};
 ghost use Rattle.file.specs.declared.Tested.the-variants as tested;
-ghost use Rattle.file.specs.Contents.{mostTracks, trackWidth, entries, sectorsOf};
+ghost use Rattle.file.specs.Contents.{longestLabel, mostTracks, trackWidth, entries, sectorsOf};
 ghost use Rattle.file.specs.Refusals.{roomTest, writeTests};
-ghost use Rattle.file.specs.Turns.{answersOn, Modest};
+ghost use Rattle.file.specs.Turns.{answersOn, Short};
 
 // 36: the area holds the file.
 fn room_tested(label: &[u8], tracks: &[u8], answers: &[u8], data: &[u8], room: usize) -> Tested
-    requires { ⌜ Modest (record { label = now label; tracks = now tracks; answers = now answers; «data» = now «data» }) ⌝ }
+    requires { ⌜ Short (record { label = now label; tracks = now tracks; answers = now answers; «data» = now «data» }) ⌝ }
     ensures { λ r. ⌜ r ≡ by (refusal (roomTest (record { label = now (label .entry); tracks = now (tracks .entry); answers = now (answers .entry); «data» = now («data» .entry) }) room ∷ [])) tested.Passed tested.Refused ⌝ }
 {
     let counts = 4 * COUNT_WIDTH;
@@ -39,7 +39,7 @@ fn answers_tested(
     sectors: usize,
     room: usize,
 ) -> Tested
-    requires { ⌜ (length (now label) ≤ 80) × (length (now tracks) ≤ trackWidth * mostTracks) × (sectors ≡ sectorsOf (entries (now tracks))) ⌝ }
+    requires { ⌜ (length (now label) ≤ longestLabel) × (length (now tracks) ≤ trackWidth * mostTracks) × (sectors ≡ sectorsOf (entries (now tracks))) ⌝ }
     ensures { λ r. ⌜ r ≡ by (refusal (answersOn (record { label = now (label .entry); tracks = now (tracks .entry); answers = now (answers .entry); «data» = now («data» .entry) }) room)) tested.Passed tested.Refused ⌝ }
 {
     if answers.len() != sectors {

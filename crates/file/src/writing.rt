@@ -3,11 +3,10 @@ use super::COUNT_WIDTH;
 use super::TRACK_WIDTH;
 ghost use mathlib.Core.List.{_++_};
 ghost use mathlib.Core.Path.{_≡_};
-ghost use Prim.Native.Nat.{_+_, _-_, _*_, _<_, _≤_, _^_};
+ghost use Prim.Native.Nat.{_+_, _-_, _≤_};
 ghost use lib.ListN.{length, replicate};
 ghost use lib.Seq.{sets};
 ghost use Rattle.file.specs.Sections.{fourBytes, counted, encoded};
-ghost use Rattle.file.specs.Turns.{Modest};
 
 // A count in four bytes, most significant first.
 fn put_count(count: usize, area: &mut [u8], at: usize)

@@ -3,14 +3,13 @@
 use mathlib.Core.List.{List, [], _∷_}
 use mathlib.Core.Path.{_≡_}
 use Prim.Native.Nat.{ℕ, _≤_}
-use lib.ListN.{length, getD, take, drop, replicate}
+use lib.ListN.{length, getD, take, replicate}
 use Rattle.cells.specs.Cells.{Bytes}
 use Rattle.file.specs.Contents.{Content}
 use Rattle.file.specs.Outcomes.{readTests, Fits}
 use Rattle.file.specs.Refusals.{refusalNumber, writeTests}
 use Rattle.file.specs.Sections.{encoded, contentAt}
 use Rattle.file.specs.declared.Refusal.{Refusal}
-use Rattle.file.specs.declared.Section.{Section}
 use Rattle.file.specs.declared.Sections.{Sections}
 use Rattle.station.specs.Files.{GivesFileRead, GivesFileWrite}
 use Rattle.verdicts.specs.Tests.{Test, ExactlyBy}

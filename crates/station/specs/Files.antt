@@ -8,8 +8,6 @@ use Rattle.file.specs.Outcomes.{readAnswer, writeAnswer, writeArea}
 use Rattle.file.specs.Refusals.{refusalNumber}
 use Rattle.file.specs.declared.Judged.{Judged}
 use Rattle.file.specs.declared.Judged.the-variants as judged
-use Rattle.file.specs.declared.Section.{Section}
-use Rattle.file.specs.declared.Sections.{Sections}
 use Rattle.file.specs.declared.Written.{Written}
 use Rattle.file.specs.declared.Written.the-variants as written
 

@@ -1,5 +1,5 @@
 -- A count in four bytes and back, and a section behind its count: where it lies in a file that is put together, and how a file is taken apart there.
-use mathlib.Core.Path.{_≡_, refl, sym, ap, ap₂, _∙_}
+use mathlib.Core.Path.{_≡_, sym, ap, ap₂, _∙_}
 use mathlib.Core.List.{List, [], _∷_, _++_}
 use Prim.Native.Nat.{ℕ, zero, suc, _+_, _*_, _<_, _≤_, _/_, _%_}
 use native.Mathlib.Nat.{add-zero, div-div-eq-div-mul, mod-eq-of-lt}

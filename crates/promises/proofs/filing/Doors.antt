@@ -1,5 +1,5 @@
 -- The file, of the exported functions: they answer by their tests, and what they leave is what the definitions of the file say.
-use mathlib.Core.Path.{_≡_, refl, sym, ap, ap₂, subst, _∙_}
+use mathlib.Core.Path.{_≡_, refl, sym, ap, subst, _∙_}
 use mathlib.Core.List.{List, [], _∷_, _++_}
 use Prim.Native.Nat.{ℕ, zero, suc, _+_, _-_, _≤_}
 use native.Mathlib.Omega.{arith}
@@ -7,17 +7,15 @@ use borrow.Author.Tests.{le-ltb}
 use lib.ListN.{length, length-append, length-replicate, getD, take, replicate}
 use lib.Seq.{take-append-seam, getD-append-add}
 use Rattle.verdicts.specs.Tests.{Verdict, passed, refused, refusal, by}
-use Rattle.verdicts.proofs.Tests.{clash, append-passed, exactly, by-map, by-passed}
+use Rattle.verdicts.proofs.Tests.{append-passed, exactly, by-map, by-passed}
 use Rattle.file.specs.Contents.{Content}
 use Rattle.file.specs.Outcomes.{readTests, readAnswer, Fits, writeAnswer, writeArea}
 use Rattle.file.specs.Refusals.{refusalNumber, contentTests, roomTest, writeTests}
 use Rattle.file.specs.Sections.{encoded, sectionsIn, contentAt}
-use Rattle.file.specs.declared.Judged.{Judged}
 use Rattle.file.specs.declared.Judged.the-variants as judged
 use Rattle.file.specs.declared.Refusal.{Refusal}
 use Rattle.file.specs.declared.Refusal.the-variants.{PastEnd, LabelOrTracks, AnswerBytes, DataCount, LeftOver, AreaLength}
 use Rattle.file.specs.declared.Sections.{Sections}
-use Rattle.file.specs.declared.Written.{Written}
 use Rattle.file.specs.declared.Written.the-variants as written
 use Rattle.file.proofs.Fitting.{fitting, writing-fits, room-enough}
 use Rattle.station.specs.Files.{judgedNumber, sectionNumbers, writtenNumber, writtenLength, GivesFileRead, GivesFileWrite}

@@ -13,7 +13,7 @@ use Rattle.verdicts.proofs.Tests.{passed-both, first-passed}
 use Rattle.file.specs.Contents.{Content, trackWidth, entries, isTrackList, sectorsOf, all, isAnswer, carriedBytes}
 use Rattle.file.specs.Outcomes.{readTests}
 use Rattle.file.specs.Refusals.{labelTests, tracksTests, answersTests, dataTests, headTests, wholeTests}
-use Rattle.file.specs.Sections.{counted, encoded, countAt, sectionAt, end, held, labelIn, tracksIn, answersIn, dataIn, sectionsIn, contentAt}
+use Rattle.file.specs.Sections.{counted, encoded, end, held, labelIn, tracksIn, answersIn, dataIn, sectionsIn, contentAt}
 use Rattle.file.proofs.Fitting.{Fitting}
 use Rattle.file.proofs.Opening.{held-whole}
 use Rattle.file.proofs.Putting.{encoded-on}

@@ -1,8 +1,8 @@
 -- The file of a content that fits is read, and its sections hold the very content.
 use mathlib.Core.Path.{_≡_, refl, sym, ap, ap₂, _∙_}
-use mathlib.Core.Bool.{true, false, not}
+use mathlib.Core.Bool.{false, not}
 use mathlib.Core.List.{List, [], _∷_, _++_, append-assoc, append-nil}
-use Prim.Native.Nat.{ℕ, _+_, _*_, _<_, _≤_, _/_, _%_}
+use Prim.Native.Nat.{ℕ, _+_, _*_, _<_, _≤_, _/_}
 use native.Mathlib.Nat.{div-one}
 use native.Mathlib.Omega.{arith}
 use borrow.Author.Tests.{eq-eqb, le-ltb}
@@ -12,7 +12,7 @@ use Rattle.verdicts.proofs.Tests.{append-passed}
 use Rattle.file.specs.Contents.{Content, longestLabel, mostTracks, trackWidth, entries, isTrackList, sectorsOf, all, isAnswer, carriedBytes}
 use Rattle.file.specs.Outcomes.{readTests, Fits}
 use Rattle.file.specs.Refusals.{endTest, leftTest, labelTests, tracksTests, answersTests, dataTests, headTests, wholeTests, contentTests}
-use Rattle.file.specs.Sections.{fourBytes, counted, encoded, countAt, sectionAt, end, held, labelIn, tracksIn, answersIn, dataIn, sectionsIn, contentAt}
+use Rattle.file.specs.Sections.{counted, encoded, end, held, labelIn, tracksIn, answersIn, dataIn, sectionsIn, contentAt}
 use Rattle.file.specs.declared.Refusal.{Refusal}
 use Rattle.file.proofs.Asking.{list-whole}
 use Rattle.file.proofs.Fitting.{Fitting, answers-few, data-few}

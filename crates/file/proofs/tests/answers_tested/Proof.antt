@@ -7,7 +7,7 @@ use borrow.Author.Tests.{eq-eqb, ne-eqb}
 use denote.Ref.{now}
 use lib.ListN.{length}
 use Rattle.file.specs.declared.Tested.the-variants as tested
-use Rattle.file.specs.Contents.{Content, entries, all, isAnswer, carriedBytes}
+use Rattle.file.specs.Contents.{Content, entries, carriedBytes}
 use Rattle.file.specs.Refusals.{answersTest, numbersTest, dataTest}
 use Rattle.file.specs.Turns.{answersOn}
 use Rattle.file.proofs.Asking.{sectors-most}

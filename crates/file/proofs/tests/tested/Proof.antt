@@ -7,7 +7,7 @@ use borrow.Author.Tests.{lt-ltb, le-ltb}
 use denote.Ref.{now}
 use lib.ListN.{length}
 use Rattle.file.specs.declared.Tested.the-variants as tested
-use Rattle.file.specs.Contents.{Content, trackWidth, entries, isTrackList, sectorsOf}
+use Rattle.file.specs.Contents.{Content, trackWidth}
 use Rattle.file.specs.Refusals.{labelTest, tracksTest, listTest, contentTests, writeTests}
 use Rattle.file.specs.Turns.{answersOn}
 use Rattle.file.proofs.Asking.{list-wrong, list-right, list-whole}
