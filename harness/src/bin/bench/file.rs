@@ -7,17 +7,22 @@ use harness::station::{self, Sections};
 use harness::tracks::{Track, MFM};
 use std::cell::RefCell;
 
-/// Each with its name: all tracks of a cartridge in the layout with the longest sectors, every one of them read; and two
-/// tracks of which every third sector was not.
-fn cases() -> [(&'static str, Contents); 2] {
+/// Each with its name: all tracks of a cartridge in the layout with the longest sectors, every one of them read, and none of
+/// them, so that next to nothing is copied; and two tracks of which every third sector was not.
+fn cases() -> [(&'static str, Contents); 3] {
     let rng = &mut Rng::new(9);
     let takes = |cylinder, side| if cylinder == 0 { side } else { 3 };
-    let whole = pairs().into_iter().map(|(cylinder, side)| Track { layout: takes(cylinder, side), cylinder, side });
-    let whole = Contents::all(rng, &whole.collect::<Vec<Track>>(), 1);
+    let tracks = pairs().into_iter().map(|(cylinder, side)| Track { layout: takes(cylinder, side), cylinder, side });
+    let tracks: Vec<Track> = tracks.collect();
+    let (whole, unread) = (Contents::all(rng, &tracks, 1), Contents::all(rng, &tracks, 21));
     let mixed = [1, 2, 26].into_iter().cycle().take(2 * 26).collect();
     let small = Contents::answered(rng, &[Track { side: 0, ..MFM }, MFM], mixed);
     let label = b"LATHE 3, AXIS TABLE";
-    [("150 tracks", whole.labelled(label)), ("2 tracks", small.labelled(label))]
+    [
+        ("150 tracks", whole.labelled(label)),
+        ("150 tracks, no data", unread.labelled(label)),
+        ("2 tracks", small.labelled(label)),
+    ]
 }
 
 /// Into an area just as long as the file. The reference copies by the C library's function, which on some processors moves
