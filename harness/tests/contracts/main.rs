@@ -49,6 +49,8 @@ fn the_quoted_names_are_there() {
     for (text, line) in &page.quoted {
         let is_known = if text.contains('/') {
             there.has_file(text)
+        } else if there.crates.contains(text) {
+            true
         } else if let Some(name) = code_name(text) {
             there.functions.contains(name) || (!text.contains('(') && there.code.contains(name))
         } else if text.split(' ').all(is_word) {
