@@ -10,7 +10,7 @@ use Rattle.verdicts.specs.Tests.{passed, refusal}
 use Rattle.verdicts.proofs.Tests.{first-passed, passed-both}
 use Rattle.file.specs.Contents.{Content, trackWidth, entries, isTrackList, sectorsOf, all, isAnswer, carriedBytes}
 use Rattle.file.specs.Outcomes.{Fits}
-use Rattle.file.specs.Refusals.{contentTests, roomTest, writeTests}
+use Rattle.file.specs.Refusals.{fitTests, roomTest, writeTests}
 use Rattle.file.specs.Sections.{encoded}
 use Rattle.file.proofs.Asking.{list-whole, sectors-most}
 use Rattle.file.proofs.Carrying.{carried-most}
@@ -26,7 +26,7 @@ pub record Fitting (content : Content) : Type 0 where
   pub «data» : length (content .«data») ≡ carriedBytes (entries (content .tracks)) (content .answers)
 
 pub fitting : (content : Content) → Fits content → Fitting content
-unfolding contentTests
+unfolding fitTests
 fitting content h =
     let one = first-passed _ _ h in
     let two = first-passed _ _ (one .1) in
@@ -58,8 +58,8 @@ module _ (content : Content) (f : Fitting content) where
 module _ (content : Content) (room : ℕ) (h : refusal (writeTests content room) ≡ passed) where
   pub writing-fits : Fits content
   unfolding writeTests
-  writing-fits = passed-both (contentTests content) (roomTest content room ∷ []) h .0
+  writing-fits = passed-both (fitTests content) (roomTest content room ∷ []) h .0
 
   pub room-enough : length (encoded content) ≤ room
   unfolding writeTests
-  room-enough = ltb-false _ _ (first-passed _ _ (passed-both (contentTests content) (roomTest content room ∷ []) h .1) .0)
+  room-enough = ltb-false _ _ (first-passed _ _ (passed-both (fitTests content) (roomTest content room ∷ []) h .1) .0)

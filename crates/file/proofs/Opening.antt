@@ -21,7 +21,7 @@ use Rattle.file.specs.declared.Section.{Section}
 use Rattle.file.specs.Contents.{longestLabel, mostTracks, trackWidth, entries, sectorsOf, carriedBytes}
 use Rattle.file.specs.Sections.{countAt, sectionAt, end, held, labelIn, tracksIn, answersIn, dataIn, sectionsIn}
 use Rattle.file.specs.Refusals.{endTest, listTest, numbersTest, labelTests, tracksTests, answersTests, dataTests, headTests, wholeTests}
-use Rattle.file.specs.Outcomes.{headAnswer, wholeAnswer, readTests, readAnswer}
+use Rattle.file.specs.Outcomes.{headAnswer, wholeAnswer, fileTests, fileAnswer}
 use Rattle.file.specs.Turns.{outside, countTests, sectionTests}
 use Rattle.file.proofs.Judging.{applied, skipped, stopped, went-on}
 
@@ -188,12 +188,12 @@ module _ (file : List ℕ) (at bytes : ℕ) (p : at ≡ end 1 (answersIn file))
 -- ---- a whole file
 
 -- Its head is judged, and then its end.
-pub read-whole : (file : List ℕ) → wholeAnswer (headAnswer file) (length file) ≡ readAnswer file
-unfolding headAnswer readAnswer by
+pub read-whole : (file : List ℕ) → wholeAnswer (headAnswer file) (length file) ≡ fileAnswer file
+unfolding headAnswer fileAnswer by
 read-whole file = go (refusal (headTests file)) refl
   where
     go : (v : Verdict Refusal) → refusal (headTests file) ≡ v
         → wholeAnswer (by v (judged.Found (sectionsIn file)) judged.Refused) (length file)
-        ≡ by (refusal (readTests file)) (judged.Found (sectionsIn file)) judged.Refused
+        ≡ by (refusal (fileTests file)) (judged.Found (sectionsIn file)) judged.Refused
     go passed h = went-on (judged.Found (sectionsIn file)) judged.Refused (headTests file) (wholeTests (sectionsIn file) (length file)) h
     go (refused f) h = stopped (judged.Found (sectionsIn file)) judged.Refused (headTests file) (wholeTests (sectionsIn file) (length file)) f h

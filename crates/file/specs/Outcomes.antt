@@ -11,7 +11,7 @@ use Rattle.file.specs.declared.Written.{Written}
 use Rattle.file.specs.declared.Written.the-variants as written
 use Rattle.file.specs.Contents.{Content}
 use Rattle.file.specs.Sections.{encoded, sectionsIn}
-use Rattle.file.specs.Refusals.{refusalNumber, headTests, wholeTests, contentTests, writeTests}
+use Rattle.file.specs.Refusals.{refusalNumber, headTests, wholeTests, fitTests, writeTests}
 
 -- `refusal_number` answers the papers' number.
 abbrev pub IsRefusalNumber : Refusal → ℕ → Type 0
@@ -35,21 +35,21 @@ abbrev pub IsWhole : Judged → (bytes : ℕ) → Judged → Type 0
 IsWhole head bytes answer = answer ≡ wholeAnswer head bytes
 
 -- The refusals of reading a file, in the papers' order.
-abbrev pub readTests : List ℕ → List (Test Refusal)
-readTests file = headTests file ++ wholeTests (sectionsIn file) (length file)
+abbrev pub fileTests : List ℕ → List (Test Refusal)
+fileTests file = headTests file ++ wholeTests (sectionsIn file) (length file)
 
 -- `read` answers where the sections are, or the first refusal.
-unfoldable pub readAnswer : List ℕ → Judged
-readAnswer file = by (refusal (readTests file)) (judged.Found (sectionsIn file)) judged.Refused
+unfoldable pub fileAnswer : List ℕ → Judged
+fileAnswer file = by (refusal (fileTests file)) (judged.Found (sectionsIn file)) judged.Refused
 
 abbrev pub IsRead : List ℕ → Judged → Type 0
-IsRead file answer = answer ≡ readAnswer file
+IsRead file answer = answer ≡ fileAnswer file
 
 -- ---- writing
 
 -- The content has a file: none of 32, 33 and 34 applies.
 abbrev pub Fits : Content → Type 0
-Fits content = refusal (contentTests content) ≡ passed
+Fits content = refusal (fitTests content) ≡ passed
 
 -- What `write` answers: the bytes of the file, or the first refusal.
 unfoldable pub writeAnswer : Content → (room : ℕ) → Written

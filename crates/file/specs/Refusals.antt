@@ -102,8 +102,8 @@ wholeTests s bytes = endTest bytes (end 1 (s .«data»)) ∷ leftTest bytes (end
 -- ---- writing
 
 -- 32, 33, 34 of what is to be written, in the same way. A track list that is no multiple of three bytes is none.
-unfoldable pub contentTests : Content → List (Test Refusal)
-contentTests content =
+unfoldable pub fitTests : Content → List (Test Refusal)
+fitTests content =
     labelTest (length (content .label))
     ∷ tracksTest (length (content .tracks) / trackWidth)
     ∷ listTest (content .tracks)
@@ -118,4 +118,4 @@ roomTest content room = record { applies = ltb room (length (encoded content)); 
 
 -- The refusals of writing, in the papers' order: 32, 33, 34, 36.
 unfoldable pub writeTests : Content → (room : ℕ) → List (Test Refusal)
-writeTests content room = contentTests content ++ (roomTest content room ∷ [])
+writeTests content room = fitTests content ++ (roomTest content room ∷ [])

@@ -4,5 +4,7 @@ pub mod Counts
 pub mod Writing
 -- a file that is read was written
 pub mod Reading
+-- the head of a file stands whatever follows it
+pub mod Heads
 -- the exported functions
 pub mod Doors

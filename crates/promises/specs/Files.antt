@@ -1,15 +1,18 @@
 -- The file of a read cartridge (02, Req 03), of the exported functions: each refusal when it applies and only then, zeros where one is given, and one
 -- file for each content.
-use mathlib.Core.List.{List, [], _∷_}
+use mathlib.Core.List.{List, [], _∷_, _++_}
 use mathlib.Core.Path.{_≡_}
-use Prim.Native.Nat.{ℕ, _≤_}
+use Prim.Native.Nat.{ℕ, _+_, _*_, _≤_}
 use lib.ListN.{length, getD, take, replicate}
 use Rattle.cells.specs.Cells.{Bytes}
-use Rattle.file.specs.Contents.{Content}
-use Rattle.file.specs.Outcomes.{readTests, Fits}
+use Rattle.layouts.specs.Layouts.{mostSectors}
+use Rattle.file.specs.Contents.{Content, longestLabel, mostTracks, trackWidth}
+use Rattle.file.specs.Outcomes.{fileTests, headAnswer, Fits}
 use Rattle.file.specs.Refusals.{refusalNumber, writeTests}
-use Rattle.file.specs.Sections.{encoded, contentAt}
+use Rattle.file.specs.Sections.{countWidth, encoded, contentAt}
+use Rattle.file.specs.declared.Judged.the-variants as judged
 use Rattle.file.specs.declared.Refusal.{Refusal}
+use Rattle.file.specs.declared.Refusal.the-variants.{PastEnd}
 use Rattle.file.specs.declared.Sections.{Sections}
 use Rattle.station.specs.Files.{GivesFileRead, GivesFileWrite}
 use Rattle.verdicts.specs.Tests.{Test, ExactlyBy}
@@ -27,7 +30,7 @@ FileRefusedBy tests number = ExactlyBy tests (λ f. number ≡ refusalNumber f)
 
 -- Each refusal of both functions, when it applies and only then.
 pub record FileDoorsRefuse : Type 0 where
-  pub read : (file : List ℕ) (number : ℕ) (sections : List ℕ) → GivesFileRead file number sections → FileRefusedBy (readTests file) number
+  pub read : (file : List ℕ) (number : ℕ) (sections : List ℕ) → GivesFileRead file number sections → FileRefusedBy (fileTests file) number
   pub write : (content : Content) (room number : ℕ) (area written : List ℕ) → GivesFileWrite content room number area written
       → FileRefusedBy (writeTests content room) number
 
@@ -87,3 +90,15 @@ ReadIsAFile =
 -- Two contents with the same file are equal.
 abbrev pub OneContent : Type 0
 OneContent = (one two : Content) → Fits one → Fits two → encoded one ≡ encoded two → one ≡ two
+
+-- ---- a file that comes as a stream
+
+-- No head is longer: four counts, the longest label, the most tracks, and an answer for each sector that these can have.
+abbrev pub longestHead : ℕ
+longestHead = 4 * countWidth + longestLabel + trackWidth * mostTracks + mostTracks * mostSectors
+
+-- `head` judges a file by what stands before its data. Where bytes have come that are not too few for it, those that follow change nothing; and so many
+-- are never too few. (A program that reads a stream holds that many bytes, and no whole file.)
+pub record HeadStands : Type 0 where
+  pub same : (file more : List ℕ) → (headAnswer file ≡ judged.Refused PastEnd → ⊥) → headAnswer (file ++ more) ≡ headAnswer file
+  pub enough : (file : List ℕ) → longestHead ≤ length file → headAnswer file ≡ judged.Refused PastEnd → ⊥

@@ -4,7 +4,7 @@ use mathlib.Core.Path.{_≡_}
 use Prim.Native.Nat.{ℕ}
 use lib.ListN.{replicate}
 use Rattle.file.specs.Contents.{Content}
-use Rattle.file.specs.Outcomes.{readAnswer, writeAnswer, writeArea}
+use Rattle.file.specs.Outcomes.{fileAnswer, writeAnswer, writeArea}
 use Rattle.file.specs.Refusals.{refusalNumber}
 use Rattle.file.specs.declared.Judged.{Judged}
 use Rattle.file.specs.declared.Judged.the-variants as judged
@@ -42,8 +42,8 @@ writtenLength (written.Refused f) = replicate 1 0
 
 -- `station_file_read` gives 0 and where the sections are; or the number of the first refusal that applies, and zeros.
 pub record GivesFileRead (file : List ℕ) (number : ℕ) (sections : List ℕ) : Type 0 where
-  pub numbered : number ≡ judgedNumber (readAnswer file)
-  pub placed : sections ≡ sectionNumbers (readAnswer file)
+  pub numbered : number ≡ judgedNumber (fileAnswer file)
+  pub placed : sections ≡ sectionNumbers (fileAnswer file)
 
 -- `station_file_write` gives 0, the file with zeros behind it, and its length; or the number of the first refusal that applies, zeros in the whole
 -- area, and 0.

@@ -9,8 +9,8 @@ use lib.Seq.{take-append-seam, getD-append-add}
 use Rattle.verdicts.specs.Tests.{Verdict, passed, refused, refusal, by}
 use Rattle.verdicts.proofs.Tests.{append-passed, exactly, by-map, by-passed}
 use Rattle.file.specs.Contents.{Content}
-use Rattle.file.specs.Outcomes.{readTests, readAnswer, Fits, writeAnswer, writeArea}
-use Rattle.file.specs.Refusals.{refusalNumber, contentTests, roomTest, writeTests}
+use Rattle.file.specs.Outcomes.{fileTests, fileAnswer, Fits, writeAnswer, writeArea}
+use Rattle.file.specs.Refusals.{refusalNumber, fitTests, roomTest, writeTests}
 use Rattle.file.specs.Sections.{encoded, sectionsIn, contentAt}
 use Rattle.file.specs.declared.Judged.the-variants as judged
 use Rattle.file.specs.declared.Refusal.{Refusal}
@@ -51,9 +51,9 @@ no-zero LeftOver e = absurd (omega arith)
 no-zero AreaLength e = absurd (omega arith)
 
 -- The number of an answer is its verdict's.
-read-number : (file : List ℕ) → judgedNumber (readAnswer file) ≡ by (refusal (readTests file)) 0 refusalNumber
-unfolding readAnswer
-read-number file = by-map judgedNumber (refusal (readTests file)) (judged.Found (sectionsIn file)) judged.Refused
+read-number : (file : List ℕ) → judgedNumber (fileAnswer file) ≡ by (refusal (fileTests file)) 0 refusalNumber
+unfolding fileAnswer
+read-number file = by-map judgedNumber (refusal (fileTests file)) (judged.Found (sectionsIn file)) judged.Refused
 
 write-number : (content : Content) (room : ℕ) → writtenNumber (writeAnswer content room) ≡ by (refusal (writeTests content room)) 0 refusalNumber
 unfolding writeAnswer
@@ -68,10 +68,10 @@ file-doors-refuse =
     }
 
 pub refused-file-gives-zeros : RefusedFileGivesZeros
-unfolding readAnswer writeAnswer writeArea by
+unfolding fileAnswer writeAnswer writeArea by
 refused-file-gives-zeros =
     record {
-      read = λ file number sections p h. reads (refusal (readTests file)) (sectionsIn file) number sections (p .numbered) (p .placed) h;
+      read = λ file number sections p h. reads (refusal (fileTests file)) (sectionsIn file) number sections (p .numbered) (p .placed) h;
       write = λ content room number area long p h.
           writes (refusal (writeTests content room)) content room number area long (p .numbered) (p .leaves) (p .counted) h;
     }
@@ -135,12 +135,12 @@ writing-leaves-the-file content room area count p =
 -- ---- what is read
 
 -- A file that its tests pass gives its sections.
-module _ (file : List ℕ) (h : refusal (readTests file) ≡ passed) where
-  found : readAnswer file ≡ judged.Found (sectionsIn file)
-  unfolding readAnswer by
+module _ (file : List ℕ) (h : refusal (fileTests file) ≡ passed) where
+  found : fileAnswer file ≡ judged.Found (sectionsIn file)
+  unfolding fileAnswer by
   found = rw h
 
-  by-numbers : (sections : List ℕ) → sections ≡ sectionNumbers (readAnswer file) → contentBy sections file ≡ contentAt (sectionsIn file) file
+  by-numbers : (sections : List ℕ) → sections ≡ sectionNumbers (fileAnswer file) → contentBy sections file ≡ contentAt (sectionsIn file) file
   by-numbers sections e = ap (λ (l : List ℕ). contentBy l file) (e ∙ ap sectionNumbers found)
 
 pub written-reads-back : WrittenReadsBack
@@ -163,7 +163,7 @@ one-content one two h k e =
 room-passes : (content : Content) (room : ℕ) → Fits content → length (encoded content) ≤ room → refusal (writeTests content room) ≡ passed
 unfolding writeTests
 room-passes content room fits enough =
-    append-passed (contentTests content) (roomTest content room ∷ []) fits ∙ passing _ _ (le-ltb _ _ enough) none
+    append-passed (fitTests content) (roomTest content room ∷ []) fits ∙ passing _ _ (le-ltb _ _ enough) none
 
 by-zero : (v : Verdict Refusal) → v ≡ passed → by v 0 refusalNumber ≡ 0
 unfolding by
@@ -171,7 +171,7 @@ by-zero v e = rw e
 
 pub read-is-a-file : ReadIsAFile
 read-is-a-file file sections small p =
-    let h : refusal (readTests file) ≡ passed =
+    let h : refusal (fileTests file) ≡ passed =
     by-passed 0 refusalNumber no-zero file-numbers-apart _ 0 (p .numbered ∙ read-number file) refl in
     let k = known file h in
     let content = contentAt (sectionsIn file) file in

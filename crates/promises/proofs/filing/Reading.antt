@@ -11,7 +11,7 @@ use Rattle.cells.specs.Cells.{Bytes}
 use Rattle.verdicts.specs.Tests.{passed, refusal}
 use Rattle.verdicts.proofs.Tests.{passed-both, first-passed}
 use Rattle.file.specs.Contents.{Content, trackWidth, entries, isTrackList, sectorsOf, all, isAnswer, carriedBytes}
-use Rattle.file.specs.Outcomes.{readTests}
+use Rattle.file.specs.Outcomes.{fileTests}
 use Rattle.file.specs.Refusals.{labelTests, tracksTests, answersTests, dataTests, headTests, wholeTests}
 use Rattle.file.specs.Sections.{counted, encoded, end, held, labelIn, tracksIn, answersIn, dataIn, sectionsIn, contentAt}
 use Rattle.file.proofs.Fitting.{Fitting}
@@ -32,7 +32,7 @@ pub record Known (file : List ℕ) : Type 0 where
   pub «data» : dataIn file .count ≡ carriedBytes (entries (held trackWidth (tracksIn file) file)) (held 1 (answersIn file) file)
   pub ends : end 1 (dataIn file) ≡ length file
 
-pub known : (file : List ℕ) → refusal (readTests file) ≡ passed → Known file
+pub known : (file : List ℕ) → refusal (fileTests file) ≡ passed → Known file
 unfolding headTests labelTests tracksTests answersTests dataTests wholeTests
 known file h =
     let whole = passed-both (headTests file) (wholeTests (sectionsIn file) (length file)) h in

@@ -10,8 +10,8 @@ use lib.ListN.{length, length-append}
 use Rattle.verdicts.specs.Tests.{Test, passed, refusal}
 use Rattle.verdicts.proofs.Tests.{append-passed}
 use Rattle.file.specs.Contents.{Content, longestLabel, mostTracks, trackWidth, entries, isTrackList, sectorsOf, all, isAnswer, carriedBytes}
-use Rattle.file.specs.Outcomes.{readTests, Fits}
-use Rattle.file.specs.Refusals.{endTest, leftTest, labelTests, tracksTests, answersTests, dataTests, headTests, wholeTests, contentTests}
+use Rattle.file.specs.Outcomes.{fileTests, Fits}
+use Rattle.file.specs.Refusals.{endTest, leftTest, labelTests, tracksTests, answersTests, dataTests, headTests, wholeTests, fitTests}
 use Rattle.file.specs.Sections.{counted, encoded, end, held, labelIn, tracksIn, answersIn, dataIn, sectionsIn, contentAt}
 use Rattle.file.specs.declared.Refusal.{Refusal}
 use Rattle.file.proofs.Asking.{list-whole}
@@ -32,7 +32,7 @@ passing-end : (bytes place : ℕ) (ts : List (Test Refusal)) → place ≤ bytes
 passing-end bytes place ts h = passing (endTest bytes place) ts (le-ltb bytes place h)
 
 pub fits-so : (content : Content) → Fitting content → Fits content
-unfolding contentTests
+unfolding fitTests
 fits-so content f =
     passing _ _ (le-ltb _ _ (f .label))
     (passing _ _ (le-ltb _ _ (f .tracks))
@@ -210,7 +210,7 @@ module _ (content : Content) (f : Fitting content) where
       (ap not (eq-eqb _ _ (data-count ∙ f .«data»
       ∙ sym (ap₂ (λ (t a : List ℕ). carriedBytes (entries t) a) tracks-held answers-held)))) none)
 
-  pub written-reads : refusal (readTests file) ≡ passed
+  pub written-reads : refusal (fileTests file) ≡ passed
   unfolding headTests wholeTests
   written-reads =
       append-passed (headTests file) _

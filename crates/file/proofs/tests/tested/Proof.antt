@@ -8,7 +8,7 @@ use denote.Ref.{now}
 use lib.ListN.{length}
 use Rattle.file.specs.declared.Tested.the-variants as tested
 use Rattle.file.specs.Contents.{Content, trackWidth}
-use Rattle.file.specs.Refusals.{labelTest, tracksTest, listTest, contentTests, writeTests}
+use Rattle.file.specs.Refusals.{labelTest, tracksTest, listTest, fitTests, writeTests}
 use Rattle.file.specs.Turns.{answersOn}
 use Rattle.file.proofs.Asking.{list-wrong, list-right, list-whole}
 use Rattle.file.proofs.Judging.{applied, skipped}
@@ -17,14 +17,14 @@ use Rattle.file.proofs.tests.tested.Statement.{statement}
 use Rattle.file.proofs.tests.tested.Tie as tie
 
 returns : tie.Need-returns
-unfolding writeTests contentTests
+unfolding writeTests fitTests
 returns c =
     let a = c .before .before .before .before .before .args in
     let content : Content = record { label = now (a .label); tracks = now (a .tracks); answers = now (a .answers); «data» = now (a .«data») } in
     applied _ tested.Refused (labelTest (length (content .label))) _ (lt-ltb _ _ (c .if1 .taken))
 
 returns-2 : tie.Need-returns-2
-unfolding writeTests contentTests
+unfolding writeTests fitTests
 returns-2 c =
     let start = c .before .before .before .before .before .before in
     let a = start .args in
@@ -42,7 +42,7 @@ enum-told : tie.Need-enum-told
 enum-told c = search needs
 
 returns-3 : tie.Need-returns-3
-unfolding writeTests contentTests
+unfolding writeTests fitTests
 returns-3 c =
     let second = c .before .before .before in
     let first = second .before in
@@ -66,7 +66,7 @@ answers-tested-requires c κs =
     (first .if1 .left, omega (arith, list-whole (content .tracks) (right .0), second .if2 .left), right .1)
 
 returns-4 : tie.Need-returns-4
-unfolding writeTests contentTests answersOn
+unfolding writeTests fitTests answersOn
 returns-4 c =
     let asked = c .before .before .before .before in
     let second = asked .before in
