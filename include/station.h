@@ -31,10 +31,10 @@
  *   4   layout above 3, or not allowed on this track
  *   5   the length of the data or the area: the table's; for a rewrite N
  *   6   a mark that is neither FB nor F8, or not as many marks as sectors
- *   7   cylinder 0, mark F8, and the sector's first byte is not hex 44
+ *   7   cylinder 0, mark F8, and the sector's first byte is not the letter D, hex 44
  *   8   the layout's fields are more than the image: no layout meets this, since each is proved to add up to the table's length
  *   9   sector 0, or above the layout's count
- *   10  the sector to be rewritten can't be found: reading answers 21, 22, 23 or 24 for it
+ *   10  the sector to be rewritten can't be found: reading answers 21, 22, 23 or 24 for it. With every other answer it is found
  *   11  its mark is not on a byte boundary
  *   12  a step after the last
  *   13  a step, and no data, control or open mark stands at the plan's place on a byte boundary, or its block passes the image's end
@@ -49,27 +49,31 @@
  *
  *   1   a data record: the slot holds its bytes
  *   2   a control record: the slot holds its bytes
+ *   3   a defective area, a planned defect: on cylinders 1 to 74, mark F8 and the letter F, hex 46, as the first byte, its EDC right or wrong.
+ *       The slot holds F and then zeros, which are no data to be used: copy the defect as such, by a format or a rewrite with F8 and this slot
  *   21  no identifier of this sector was found
  *   22  more than one was
  *   23  it has no data block
  *   24  its block passes the end of the image
  *   25  an open mark: a rewrite of this sector was cut off
  *   26  its EDC is wrong
+ *   27  its EDC is right, but on cylinder 0 a record with mark F8 has to begin with the letter D, hex 44, and it does not: report it
  *
- * With 21 to 26 the slot is all zero. No number of an answer that station_pick gives is that of a refusal that it gives.
+ * With 21 to 27 the slot is all zero. No number of an answer that station_pick gives is that of a refusal that it gives.
  *
- * The place is the cell at which the sector's data, control or open mark begins, the image's first cell being 0. It is there with 1, 2, 24, 25
- * and 26. With 21 and 23 no such mark was found, and with 22 there may be several: the place is then 4,294,967,295, which no cell has.
+ * The place is the cell at which the sector's data, control or open mark begins, the image's first cell being 0. It is there with 1, 2, 3 and 24
+ * to 27. With 21 and 23 no such mark was found, and with 22 there may be several: the place is then 4,294,967,295, which no cell has.
  *
  * A file holds what was read of a cartridge, for another bench: four sections, each behind its count of four bytes, the most significant first.
  *
  *   label    0 to 80 bytes, of any value
  *   tracks   0 to 150, three bytes each: cylinder, side, layout. They rise by cylinder and then side, no pair comes twice, and each has a
  *            layout that the table has on it
- *   answers  a byte for each sector of these tracks, by track and then sector number: 1, 2, 21 to 26
- *   data     the bytes of the sectors that are answered 1 or 2, in that order, N of each
+ *   answers  a byte for each sector of these tracks, by track and then sector number: 1, 2, 3, 21 to 27
+ *   data     the bytes of the sectors that are answered 1, 2 or 3, in that order, N of each
  *
- * The tracks' count is that of tracks, the others' that of bytes. Each content has one file. The empty one has 16 bytes, all zero.
+ * The tracks' count is that of tracks, the others' that of bytes. Each content has one file. The empty one has 16 bytes, all zero. Whether a
+ * read of its track could give an answer is not asked, nor what the data are: behind a 3 too they may be any.
  */
 #ifndef STATION_H
 #define STATION_H
@@ -111,12 +115,14 @@ enum station_file_refusal {
 enum station_answer {
     STATION_ANSWER_DATA = 1,
     STATION_ANSWER_CONTROL = 2,
+    STATION_ANSWER_DEFECTIVE = 3,
     STATION_ANSWER_NO_IDENTIFIER = 21,
     STATION_ANSWER_DOUBLED = 22,
     STATION_ANSWER_NO_BLOCK = 23,
     STATION_ANSWER_PAST_END = 24,
     STATION_ANSWER_OPEN_MARK = 25,
-    STATION_ANSWER_WRONG_EDC = 26
+    STATION_ANSWER_WRONG_EDC = 26,
+    STATION_ANSWER_FORBIDDEN_LETTER = 27
 };
 
 /*
@@ -158,7 +164,7 @@ enum station_file_size {
     STATION_LONGEST_FILE = 1224182
 };
 
-/* The marks that a sector may be given: of a data record, and of a control record. */
+/* The marks that a sector may be given: of a data record, and of a control record or a planned defect. */
 enum station_mark {
     STATION_MARK_DATA = 0xFB,
     STATION_MARK_CONTROL = 0xF8
@@ -199,7 +205,9 @@ uint8_t station_data_byte(const uint8_t *image, size_t image_length, size_t plac
 
 /*
  * Formats a track. `data` has the sectors' bytes, an area of the layout's length, and `marks` a mark for each sector, by sector number.
- * 0: `image`, whatever it held, holds the track. Refused 2, 3, 4, 1, 5, 6, 7: `image` is as it was.
+ * 0: `image`, whatever it held, holds the track. Each sector of it reads as 1 or 2, by its mark, with its bytes; but as 3 if it has F8 and its
+ * first byte is F: the other bytes are then on the track, and no read hands them back.
+ * Refused 2, 3, 4, 1, 5, 6, 7: `image` is as it was.
  */
 uint8_t station_format(uint32_t layout, uint32_t cylinder, uint32_t side, const uint8_t *data, size_t data_length,
                        const uint8_t *marks, size_t marks_length, uint8_t *image, size_t image_length);
@@ -207,24 +215,27 @@ uint8_t station_format(uint32_t layout, uint32_t cylinder, uint32_t side, const 
 /*
  * Reads a track. Whatever they held before, `area` gets the sectors' slots; `records` the records by sector, that of sector 1 first, and zeros
  * past the layout's count; `counts` the number of identifiers with a wrong EDC, and of those of other tracks.
- * 0: read; look at a sector's answer before its slot is used. Refused 2, 3, 4, 1, 5: all three hold zeros, `area` over the whole length lent.
+ * 0: read; look at a sector's answer before its slot is used: data is there with 1 and 2 alone.
+ * Refused 2, 3, 4, 1, 5: all three hold zeros, `area` over the whole length lent.
  */
 uint8_t station_read(uint32_t layout, uint32_t cylinder, uint32_t side, const uint8_t *image, size_t image_length, uint8_t *area,
                      size_t area_length, struct station_record records[26], uint32_t counts[2]);
 
 /*
  * Picks a sector from two passes over one track, each an area and the records that station_read gave with it (an answer whose number is no
- * answer's counts as 21, whatever the place beside it): from whichever pass answered 1 or 2, the first before the second, and never from both.
- * Gives the sector's answer. With 1 or 2 `taken` gets the pass, 1 or 2, the first byte of the slot in that pass's area, and the slot's length,
- * and `record` the sector's record in that pass. Else it is the first pass's answer: `taken` gets zeros, and `record` the record in the first
- * pass. A place is handed on as it is. Refused 4 (only above 3), 9, 5: zeros in both.
+ * answer's counts as 21, whatever the place beside it): from whichever pass answered 1, 2 or 3, the first before the second, so that a 3 of the
+ * first goes before a 1 of the second, and never from both.
+ * Gives the sector's answer. With 1, 2 or 3 `taken` gets the pass, 1 or 2, the first byte of the slot in that pass's area, and the slot's
+ * length, and `record` the sector's record in that pass. Else it is the first pass's answer: `taken` gets zeros, and `record` the record in the
+ * first pass. A place is handed on as it is. Refused 4 (only above 3), 9, 5: zeros in both.
  */
 uint8_t station_pick(uint32_t layout, uint32_t sector, const uint8_t *first, size_t first_length,
                      const struct station_record first_records[26], const uint8_t *second, size_t second_length,
                      const struct station_record second_records[26], uint32_t taken[3], struct station_record *record);
 
 /*
- * Asks for the rewrite of a sector with a mark and N bytes. The image is only read.
+ * Asks for the rewrite of a sector with a mark and N bytes. F8 and a first byte F make a planned defect of it; on cylinder 0 they are refused.
+ * The image is only read.
  * 0: `plan` gets the layout, the cell at which the block's mark begins (the place in the sector's record), the stores made, which are 0, and the
  * stores in all.
  * Refused 2, 3, 4, 1, 9, 5, 6, 7, 10, 11: zeros.
@@ -238,7 +249,8 @@ uint8_t station_request(uint32_t layout, uint32_t cylinder, uint32_t side, uint3
  * 0: the store is made, and the plan moved on. Refused 4 (only above 3), 1, 5, 6, 13, 12: plan and image are as they were.
  *
  * It may be cut after any store: every other sector reads as before; the one under way answers 25 from the first store to the last but one, its
- * place unchanged, and asking anew ends with the image that an uncut rewrite leaves.
+ * place unchanged, and asking anew ends with the image that an uncut rewrite leaves. After the last it reads as one that was formatted with this
+ * mark and these bytes: 1, 2 or 3. (A step knows no cylinder: handed other bytes than the request's it can leave a 27 on cylinder 0.)
  */
 uint8_t station_step(uint32_t plan[4], uint32_t mark, const uint8_t *contents, size_t contents_length, uint8_t *image,
                      size_t image_length);

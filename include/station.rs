@@ -108,7 +108,7 @@ pub const LAYOUTS: [Layout; 4] = [
 pub const MOST_SECTORS: usize = 26;
 pub const LONGEST_IMAGE: usize = 24_576;
 
-/// The marks that a sector may be given: of a data record, and of a control record.
+/// The marks that a sector may be given: of a data record, and of a control record or a planned defect.
 pub const DATA_MARK: u8 = 0xFB;
 pub const CONTROL_MARK: u8 = 0xF8;
 
@@ -227,9 +227,9 @@ pub fn read(layout: u32, cylinder: u32, side: u32, image: &[u8], area: &mut [u8]
     }
 }
 
-/// Picks a sector from two passes. The answer's number or the refusal's; what is taken is the pass, 1 or 2, the first
-/// byte of its slot in that pass's area, and the slot's length; three zeros if it is neither. The record is that of the
-/// pass taken, or of the first if it is neither; zeros if the call is refused.
+/// Picks a sector from two passes, the first that answers 1, 2 or 3. The answer's number or the refusal's; what is taken
+/// is the pass, 1 or 2, the first byte of its slot in that pass's area, and the slot's length; three zeros if it is
+/// neither. The record is that of the pass taken, or of the first if it is neither; zeros if the call is refused.
 pub fn pick(layout: u32, sector: u32, first: Pass, second: Pass, taken: &mut [u32; 3], record: &mut Record) -> u8 {
     // SAFETY: each pointer and length are those of one live slice, array or record; all but `taken` and `record` are
     // only read, and these, which are written, overlap none of them nor each other; every number is taken, in the
@@ -290,8 +290,8 @@ pub fn step(plan: &mut [u32; 4], mark: u32, contents: &[u8], image: &mut [u8]) -
 }
 
 /// Writes a file of its four sections: three bytes for each track, an answer for each sector of these, and the data of
-/// those that are answered 1 or 2. 0: the area holds the file, and zeros behind it, and the length is the file's. Else
-/// the number of the refusal, and area and length are zero.
+/// those that are answered 1, 2 or 3. 0: the area holds the file, and zeros behind it, and the length is the file's.
+/// Else the number of the refusal, and area and length are zero.
 pub fn file_write(
     label: &[u8],
     tracks: &[u8],

@@ -106,7 +106,7 @@ static void order(void) {
 static void answer_bytes(void) {
     unsigned byte;
     for (byte = 0; byte <= 255; byte++) {
-        int has_data = byte == 1 || byte == 2, has_none = byte >= 21 && byte <= 26;
+        int has_data = byte >= 1 && byte <= 3, has_none = byte >= 21 && byte <= 27;
         some_cartridge(&cartridge), cartridge.answers[1] = (uint8_t)byte;
         if (has_none)
             taken();
@@ -118,7 +118,7 @@ static void answer_bytes(void) {
         else
             refused(has_none ? 34 : 33);
     }
-    some_cartridge(&cartridge), cartridge.answers[cartridge.answers_length - 1] = 27, refused(33);
+    some_cartridge(&cartridge), cartridge.answers[cartridge.answers_length - 1] = 28, refused(33);
     some_cartridge(&cartridge), cartridge.answers_length--, refused(33);
     some_cartridge(&cartridge), cartridge.answers[cartridge.answers_length++] = 21, refused(33);
     some_cartridge(&cartridge), cartridge.answers_length = 0, refused(33);

@@ -23,7 +23,7 @@ void add_track(struct cartridge *cartridge, uint8_t cylinder, uint8_t side, uint
     for (sector = 0; sector < track->sectors; sector++) {
         uint8_t answer = answers[sector % count];
         cartridge->answers[cartridge->answers_length++] = answer;
-        for (i = 0; (answer == 1 || answer == 2) && i < track->size; i++, cartridge->data_length++)
+        for (i = 0; answer >= 1 && answer <= 3 && i < track->size; i++, cartridge->data_length++)
             cartridge->data[cartridge->data_length] = (uint8_t)(cartridge->data_length * 31 + 5);
     }
 }
@@ -37,7 +37,7 @@ static void add_label(struct cartridge *cartridge, size_t length) {
 }
 
 void some_cartridge(struct cartridge *cartridge) {
-    static const uint8_t answers[] = {1, 21, 22, 2, 23, 24, 25, 26};
+    static const uint8_t answers[] = {1, 21, 22, 2, 23, 24, 3, 25, 26, 27};
     no_cartridge(cartridge);
     add_label(cartridge, 21);
     add_track(cartridge, 0, 0, 0, answers, sizeof answers);

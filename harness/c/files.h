@@ -19,7 +19,7 @@ struct cartridge {
 /* Nothing: no label and no track. */
 void no_cartridge(struct cartridge *cartridge);
 
-/* A track more; its sectors answer in turn by `answers`, of which there are so many, and those that answer 1 or 2 get data. */
+/* A track more; its sectors answer in turn by `answers`, of which there are so many, and those that answer 1, 2 or 3 get data. */
 void add_track(struct cartridge *cartridge, uint8_t cylinder, uint8_t side, uint8_t layout, const uint8_t *answers, size_t count);
 
 /* A label of 21 bytes, and six tracks, of each layout and from the first to the last, with every answer. Their file is shorter than a room. */

@@ -62,22 +62,26 @@ static void fill(struct station_record same) {
 static void passes(const struct track *track) {
     size_t sector;
     for (sector = 1; sector <= track->sectors; sector++) {
-        uint32_t bad;
+        uint32_t good, other, bad;
         fill(record(STATION_ANSWER_WRONG_EDC, 7));
-        both(track, sector, 1, 2, 1, ONE, 1);
-        both(track, sector, 2, 1, 2, ONE, 1);
-        for (bad = 21; bad <= 26; bad++) {
-            both(track, sector, 2, bad, 2, ONE, 1);
-            both(track, sector, bad, 1, 1, TWO, 2);
-            both(track, sector, bad, 2, 2, TWO, 2);
-            both(track, sector, bad, 47 - bad, bad, ONE, 0);
+        for (good = 1; good <= 3; good++) {
+            /* a planned defect of the first pass goes before a record of the second */
+            for (other = 1; other <= 3; other++)
+                both(track, sector, good, other, good, ONE, 1);
+            for (bad = 21; bad <= 27; bad++) {
+                both(track, sector, good, bad, good, ONE, 1);
+                both(track, sector, bad, good, good, TWO, 2);
+            }
         }
+        for (bad = 21; bad <= 27; bad++)
+            both(track, sector, bad, 48 - bad, bad, ONE, 0);
         /* no answer's number counts as 21, also one whose low byte is an answer's; the place is handed on as it is */
         both(track, sector, 0, 26, 21, ONE, 0);
-        both(track, sector, 255, 3, 21, ONE, 0);
-        both(track, sector, 257, 258, 21, ONE, 0);
+        both(track, sector, 255, 4, 21, ONE, 0);
+        both(track, sector, 28, 27, 21, ONE, 0);
+        both(track, sector, 257, 259, 21, ONE, 0);
         both(track, sector, UINT32_MAX, 0x80000001, 21, ONE, 0);
-        both(track, sector, 3, 1, 1, TWO, 2);
+        both(track, sector, 4, 1, 1, TWO, 2);
         both(track, sector, 258, 2, 2, TWO, 2);
     }
 }

@@ -1,4 +1,6 @@
 #include "check.h"
+#include "laid.h"
+#include "reads.h"
 #include "station.h"
 #include "station_test.h"
 #include "tracks.h"
@@ -6,63 +8,20 @@
 #include <string.h>
 
 static uint8_t data[LONGEST_AREA], marks[MOST_SECTORS], image[LONGEST + 1];
-static struct room room;
-
-/* What a read is to give; the areas are full of garbage before. */
-struct expected {
-    uint8_t number;
-    struct station_record records[26];
-    uint32_t counts[2];
-    uint8_t area[LONGEST_AREA + 1];
-};
-
-static void reads(const struct track *track, size_t image_length, size_t area_length, const struct expected *expected) {
-    uint8_t *area = lend(&room, area_length, 0x77);
-    uint32_t counts[3] = {0xDEADBEEF, 0xDEADBEEF, 0xDEADBEEF};
-    struct station_record records[27], other = record(0x99999999, 0x88888888);
-    size_t i;
-    for (i = 0; i < 27; i++)
-        records[i] = other;
-    SAME(station_read(track->layout, track->cylinder, track->side, image, image_length, area, area_length, records, counts),
-         expected->number);
-    SAME_BYTES(area, expected->area, area_length);
-    SAME_RECORDS(records, expected->records, 26);
-    SAME_NUMBERS(counts, expected->counts, 2);
-    SAME_RECORDS(records + 26, &other, 1);
-    SAME(counts[2], 0xDEADBEEF);
-    ROOM_KEPT(&room);
-}
-
-/* What went in. */
-static struct expected whole(const struct track *track) {
-    struct expected expected;
-    size_t sector;
-    memset(&expected, 0, sizeof expected);
-    for (sector = 1; sector <= track->sectors; sector++)
-        expected.records[sector - 1] = record_of(track, marks, sector);
-    memcpy(expected.area, data, track->sectors * track->size);
-    return expected;
-}
-
-/* A refused sector: its answer, and its place. */
-static void gives(struct expected *expected, const struct track *track, size_t sector, uint32_t answer, uint32_t place) {
-    expected->records[sector - 1] = record(answer, place);
-    memset(expected->area + (sector - 1) * track->size, 0, track->size);
-}
 
 static void read_back(const struct track *track) {
     struct expected expected;
     fresh(track, data, marks, image);
-    expected = whole(track);
-    reads(track, track->image, track->sectors * track->size, &expected);
+    expected = whole(track, data, marks);
+    reads(track, image, track->image, track->sectors * track->size, &expected);
 }
 
-/* Every answer, in one track; sector 1 and the last are left whole. */
+/* Every answer that no letter decides, in one track; sector 1 and the last are left whole. Those by a letter are in letter_test.c. */
 static void damaged(const struct track *track) {
     size_t area = track->sectors * track->size, mark = track->mark_length;
     struct expected expected;
     fresh(track, data, marks, image);
-    expected = whole(track);
+    expected = whole(track, data, marks);
     /* a data cell of 2; a clock cell of 1, which does not matter */
     turn(image, 8 * (mark_of(track, 2) + mark) + 3);
     gives(&expected, track, 2, STATION_ANSWER_WRONG_EDC, place_of(track, 2));
@@ -77,23 +36,26 @@ static void damaged(const struct track *track) {
     memcpy(image + identifier_of(track, 6), image + identifier_of(track, 5), mark + 12);
     gives(&expected, track, 5, STATION_ANSWER_DOUBLED, STATION_NO_PLACE);
     gives(&expected, track, 6, STATION_ANSWER_NO_IDENTIFIER, STATION_NO_PLACE);
-    reads(track, track->image, area, &expected);
+    reads(track, image, track->image, area, &expected);
     /* the address of 7: its EDC is wrong */
     turn(image, 8 * (identifier_of(track, 7) + mark) + 1);
     gives(&expected, track, 7, STATION_ANSWER_NO_IDENTIFIER, STATION_NO_PLACE);
     expected.counts[0] = 1;
-    reads(track, track->image, area, &expected);
+    reads(track, image, track->image, area, &expected);
     /* the capture ends in the block of the last sector */
     gives(&expected, track, track->sectors, STATION_ANSWER_PAST_END, place_of(track, track->sectors));
-    reads(track, mark_of(track, track->sectors) + mark + 2 * track->size + 3, area, &expected);
+    reads(track, image, mark_of(track, track->sectors) + mark + 2 * track->size + 3, area, &expected);
 }
 
 /* 01, "Small facts": the first data mark of layout 0 begins at image byte 206, of the others at 404. Then all cells, and all places, some later. */
 static void places(const struct track *track) {
     size_t later, sector, last = track->sectors, mark = track->mark_length;
     struct expected expected;
-    fresh(track, data, marks, image);
-    expected = whole(track);
+    fill_data(track, 0, data), fill_marks(track, marks);
+    /* a planned defect at 6, or a forbidden letter */
+    marks[5] = STATION_MARK_CONTROL, data[5 * track->size] = LETTER_F;
+    lay_track(track, data, marks, image);
+    expected = whole(track, data, marks);
     SAME(expected.records[0].place, track->layout == 0 ? 8 * 206 : 8 * 404);
     /* a data cell of 2, the open mark at 4, and the capture ends in the block of the last */
     turn(image, 8 * (mark_of(track, 2) + mark) + 3);
@@ -102,7 +64,7 @@ static void places(const struct track *track) {
     gives(&expected, track, 4, STATION_ANSWER_OPEN_MARK, place_of(track, 4));
     gives(&expected, track, last, STATION_ANSWER_PAST_END, place_of(track, last));
     for (later = 0; later < 9; later++) {
-        reads(track, mark_of(track, last) + mark + 9, last * track->size, &expected);
+        reads(track, image, mark_of(track, last) + mark + 9, last * track->size, &expected);
         move_on(image, track->image + later);
         for (sector = 1; sector <= last; sector++)
             expected.records[sector - 1].place++;
@@ -120,7 +82,7 @@ static void foreign(const struct track *track) {
         gives(&expected, track, sector, STATION_ANSWER_NO_IDENTIFIER, STATION_NO_PLACE);
     expected.counts[1] = (uint32_t)track->sectors;
     fresh(track, data, marks, image);
-    reads(&asked, track->image, track->sectors * track->size, &expected);
+    reads(&asked, image, track->image, track->sectors * track->size, &expected);
 }
 
 /* A refused read: zeros in all that was lent, over its whole length. */
@@ -128,7 +90,7 @@ static void refused(struct track track, size_t image_length, size_t area_length,
     struct expected expected;
     memset(&expected, 0, sizeof expected);
     expected.number = number;
-    reads(&track, image_length, area_length, &expected);
+    reads(&track, image, image_length, area_length, &expected);
 }
 
 static void refusals(const struct track *track) {
@@ -162,8 +124,8 @@ static void lengths(void) {
     for (sector = 1; sector <= 8; sector++)
         gives(&expected, &TRACKS[3], sector, STATION_ANSWER_NO_IDENTIFIER, STATION_NO_PLACE);
     memset(image, 0xFF, sizeof image);
-    reads(&TRACKS[3], 1, 8192, &expected);
-    reads(&TRACKS[3], LONGEST, 8192, &expected);
+    reads(&TRACKS[3], image, 1, 8192, &expected);
+    reads(&TRACKS[3], image, LONGEST, 8192, &expected);
 }
 
 void read_test(void) {

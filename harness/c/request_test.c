@@ -1,4 +1,6 @@
 #include "check.h"
+#include "laid.h"
+#include "reads.h"
 #include "station.h"
 #include "station_test.h"
 #include "tracks.h"
@@ -82,28 +84,48 @@ static void wrong_calls(const struct track *track) {
     r = like(track), r.mark = 0xF9, refused(r, 6);
     r.mark = 0x1FB, refused(r, 6);
     if (track->cylinder == 0) {
-        r = like(track), r.mark = STATION_MARK_CONTROL, contents[0] = 0x45;
-        refused(r, 7);
+        r = like(track), r.mark = STATION_MARK_CONTROL;
+        contents[0] = 0x45, refused(r, 7);
+        contents[0] = LETTER_F, refused(r, 7);
     }
+}
+
+/* Sector 2 of the image has a plan. */
+static void found(const struct track *track) {
+    uint32_t plan[4];
+    plan[0] = track->layout, plan[1] = place_of(track, 2), plan[2] = 0;
+    plan[3] = (uint32_t)(2 * track->size + (track->layout == 0 ? 6 : 7));
+    requests(like(track), 0, plan);
 }
 
 /* What reading answers with 21 to 24 is refused 10; a block with a wrong EDC, or an open one, may be rewritten. */
 static void unreadable(const struct track *track) {
     struct request r = like(track);
-    uint32_t plan[4];
     fresh(track, data, marks, image);
-    plan[0] = track->layout, plan[1] = place_of(track, 2), plan[2] = 0;
-    plan[3] = (uint32_t)(2 * track->size + (track->layout == 0 ? 6 : 7));
     turn(image, 8 * (mark_of(track, 2) + track->mark_length) + 3);
-    requests(r, 0, plan);
+    found(track);
     image[mark_of(track, 2) + track->mark_length - 1] = track->layout == 0 ? 0x6B : 0x49;
-    requests(r, 0, plan);
+    found(track);
     r.image_length = mark_of(track, 2) + track->mark_length + 5, refused(r, 10);
     r.image_length = track->image;
     turn(image, 8 * mark_of(track, 2)), refused(r, 10);
     memcpy(image + identifier_of(track, 6), image + identifier_of(track, 5), track->mark_length + 12);
     r.sector = 5, refused(r, 10);
     r.sector = 6, refused(r, 10);
+}
+
+/* So may one that a letter keeps from being read: on cylinder 0 a forbidden one, elsewhere that of a planned defect. */
+static void lettered(const struct track *track) {
+    struct expected expected;
+    fill_data(track, 0, data), fill_marks(track, marks);
+    marks[1] = STATION_MARK_CONTROL, data[track->size] = LETTER_F;
+    lay_track(track, data, marks, image);
+    expected = whole(track, data, marks);
+    SAME(expected.records[1].answer, track->cylinder == 0 ? 27 : 3);
+    reads(track, image, track->image, track->sectors * track->size, &expected);
+    found(track);
+    turn(image, 8 * (mark_of(track, 2) + track->mark_length) + 17);
+    found(track);
 }
 
 /* All cells one later: every block can be read, none is on a byte boundary. */
@@ -136,6 +158,7 @@ void request_test(void) {
         plans(&TRACKS[i]);
         wrong_calls(&TRACKS[i]);
         unreadable(&TRACKS[i]);
+        lettered(&TRACKS[i]);
         off_boundary(&TRACKS[i]);
     }
     order();

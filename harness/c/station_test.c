@@ -30,12 +30,14 @@ static void numbers(void) {
     SAME(STATION_REFUSED_FILE_AREA_LENGTH, 36);
     SAME(STATION_ANSWER_DATA, 1);
     SAME(STATION_ANSWER_CONTROL, 2);
+    SAME(STATION_ANSWER_DEFECTIVE, 3);
     SAME(STATION_ANSWER_NO_IDENTIFIER, 21);
     SAME(STATION_ANSWER_DOUBLED, 22);
     SAME(STATION_ANSWER_NO_BLOCK, 23);
     SAME(STATION_ANSWER_PAST_END, 24);
     SAME(STATION_ANSWER_OPEN_MARK, 25);
     SAME(STATION_ANSWER_WRONG_EDC, 26);
+    SAME(STATION_ANSWER_FORBIDDEN_LETTER, 27);
     SAME(STATION_MARK_DATA, 0xFB);
     SAME(STATION_MARK_CONTROL, 0xF8);
     SAME(STATION_NO_PLACE, UINT32_MAX);
@@ -137,6 +139,7 @@ int main(void) {
     data_byte();
     format_test();
     read_test();
+    letter_test();
     pick_test();
     request_test();
     step_test();

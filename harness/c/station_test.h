@@ -4,6 +4,7 @@
 
 void format_test(void);
 void read_test(void);
+void letter_test(void);
 void pick_test(void);
 void request_test(void);
 void step_test(void);

@@ -9,6 +9,12 @@ const struct track TRACKS[4] = {
     {3, 5, 1, 8, 1024, 20832, 316, 404, 8, 2404},
 };
 
+struct track track_at(size_t layout, uint32_t cylinder, uint32_t side) {
+    struct track track = TRACKS[layout];
+    track.cylinder = cylinder, track.side = side;
+    return track;
+}
+
 size_t identifier_of(const struct track *track, size_t sector) {
     return track->identifier + (sector - 1) * track->stride;
 }
@@ -22,8 +28,14 @@ void fill_data(const struct track *track, uint8_t seed, uint8_t *data) {
     uint32_t state = 7u + seed;
     for (i = 0; i < track->sectors * track->size; i++) {
         state = state * 1103515245u + 12345u;
-        data[i] = i % track->size == 0 ? 0x44 : (uint8_t)(state >> 16);
+        data[i] = i % track->size == 0 ? LETTER_D : (uint8_t)(state >> 16);
     }
+}
+
+void fill_letters(const struct track *track, unsigned letter, uint8_t *data) {
+    size_t i;
+    for (i = 0; i < track->sectors; i++)
+        data[i * track->size] = (uint8_t)(letter + i);
 }
 
 void fill_marks(const struct track *track, uint8_t *marks) {
@@ -51,8 +63,15 @@ uint32_t place_of(const struct track *track, size_t sector) {
     return (uint32_t)(8 * mark_of(track, sector));
 }
 
-struct station_record record_of(const struct track *track, const uint8_t *marks, size_t sector) {
-    return record(marks[sector - 1] == STATION_MARK_CONTROL ? STATION_ANSWER_CONTROL : STATION_ANSWER_DATA, place_of(track, sector));
+uint32_t answer_of(const struct track *track, uint8_t mark, uint8_t letter, int is_right) {
+    int is_control = mark == STATION_MARK_CONTROL;
+    if (is_control && letter == LETTER_F && track->cylinder != 0)
+        return STATION_ANSWER_DEFECTIVE;
+    if (!is_right)
+        return STATION_ANSWER_WRONG_EDC;
+    if (is_control && letter != LETTER_D && track->cylinder == 0)
+        return STATION_ANSWER_FORBIDDEN_LETTER;
+    return is_control ? STATION_ANSWER_CONTROL : STATION_ANSWER_DATA;
 }
 
 void turn(uint8_t *image, size_t cell) {

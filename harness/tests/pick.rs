@@ -1,5 +1,5 @@
-//! The pick from two passes: the reference against the papers (01, "Two passes"; 02, request 01), and `station_pick`
-//! against the reference.
+//! The pick from two passes: the reference against the papers (01, "Two passes"; 02, requests 01 and 04), and
+//! `station_pick` against the reference.
 use harness::compare::pick::{compare, Call, Outcome, Pass};
 use harness::reference::pick::{pick, Pick};
 use harness::reference::records::{at, nowhere};
@@ -30,7 +30,8 @@ fn first_before_second_before_neither() {
                 let picked = pick(*layout, *number, first.lent(), second.lent());
                 let slot = (sector - 1) * size..sector * size;
                 let [start, length] = [slot.start as u32, size as u32];
-                let (expected, numbers) = match (one.answer <= 2, other.answer <= 2) {
+                let [has_one, has_other] = [one, other].map(|record| [1, 2, 3].contains(&record.answer));
+                let (expected, numbers) = match (has_one, has_other) {
                     (true, _) => (Pick::First(one, &first.area[slot]), Outcome::new([1, start, length], one)),
                     (false, true) => (Pick::Second(other, &second.area[slot]), Outcome::new([2, start, length], other)),
                     (false, false) => (Pick::Neither(one), Outcome::new([0; 3], one)),
@@ -44,8 +45,8 @@ fn first_before_second_before_neither() {
     tally.report();
 }
 
-/// The record that is handed on, in numbers: that of the pass taken, of the first pass where neither answered 1 or 2, and
-/// none of a refused call.
+/// The record that is handed on, in numbers: that of the pass taken, of the first pass where neither answered 1, 2 or 3,
+/// and none of a refused call.
 #[test]
 fn the_record_that_is_handed_on() {
     // the passes' own places
@@ -61,8 +62,19 @@ fn the_record_that_is_handed_on() {
         ([[26, ONE], [2, TWO]], right, 2, [2, 512, 256], [2, TWO]),
         ([[24, ONE], [23, NO_PLACE]], right, 24, [0, 0, 0], [24, ONE]),
         ([[21, NO_PLACE], [25, TWO]], right, 21, [0, 0, 0], [21, NO_PLACE]),
+        // H8: a defective area of the first pass goes before what the second has, and 27 has nothing
+        ([[3, ONE], [1, TWO]], right, 3, [1, 512, 256], [3, ONE]),
+        ([[3, ONE], [2, TWO]], right, 3, [1, 512, 256], [3, ONE]),
+        ([[1, ONE], [3, TWO]], right, 1, [1, 512, 256], [1, ONE]),
+        ([[26, ONE], [3, TWO]], right, 3, [2, 512, 256], [3, TWO]),
+        ([[27, ONE], [3, TWO]], right, 3, [2, 512, 256], [3, TWO]),
+        ([[27, ONE], [2, TWO]], right, 2, [2, 512, 256], [2, TWO]),
+        ([[27, ONE], [26, TWO]], right, 27, [0, 0, 0], [27, ONE]),
+        ([[26, ONE], [27, TWO]], right, 26, [0, 0, 0], [26, ONE]),
         // no answer's number is handed on as 21, and the place as it is
         ([[257, ONE], [258, TWO]], right, 21, [0, 0, 0], [21, ONE]),
+        ([[4, ONE], [259, TWO]], right, 21, [0, 0, 0], [21, ONE]),
+        ([[28, ONE], [27, TWO]], right, 21, [0, 0, 0], [21, ONE]),
         ([[0, 0], [26, TWO]], right, 21, [0, 0, 0], [21, 0]),
         ([[u32::MAX, ONE], [1, NO_PLACE]], right, 1, [2, 512, 256], [1, NO_PLACE]),
         ([[1, ONE], [1, TWO]], short, 5, [0, 0, 0], [0, 0]),
@@ -95,9 +107,9 @@ fn every_pair_of_numbers() {
             call.second.records[7] = Record { answer: other, place: places[1] };
             // a number that is no answer's counts as 21
             let (taken, answer, place) = match (one, other) {
-                (1 | 2, _) => ([1, 7 * 128, 128], one, places[0]),
-                (_, 1 | 2) => ([2, 7 * 128, 128], other, places[1]),
-                (21..=26, _) => ([0; 3], one, places[0]),
+                (1..=3, _) => ([1, 7 * 128, 128], one, places[0]),
+                (_, 1..=3) => ([2, 7 * 128, 128], other, places[1]),
+                (21..=27, _) => ([0; 3], one, places[0]),
                 _ => ([0; 3], 21, places[0]),
             };
             let expected = Outcome::new(taken, Record { answer, place });

@@ -6,8 +6,9 @@ use harness::reference::dump::{dump, dump_by, records_by};
 use harness::reference::{annex, edc, plain, plain_file, read};
 use harness::rng::Rng;
 use harness::station::{self, Sections};
-use harness::tally::met::Row;
+use harness::tally::met::{Row, ANSWERS};
 use harness::tally::Tally;
+use std::collections::BTreeSet;
 use std::fs;
 use std::path::{Path, PathBuf};
 
@@ -20,6 +21,7 @@ fn kept_vectors() {
     let folder = folder();
     let index = fs::read_to_string(folder.join("INDEX")).expect("the list of vectors");
     let mut tally = Tally::new("read", "kept vectors");
+    let mut answers = BTreeSet::new();
     for line in index.lines() {
         let place = folder.join(&line[..4]);
         let input = fs::read(place.with_extension("in")).expect("a vector's input");
@@ -31,8 +33,12 @@ fn kept_vectors() {
         assert_eq!(records_by(station::read, &input), records, "records: {line}");
         assert_eq!(records_by(read::read, &input), records, "the reference's records: {line}");
         assert_eq!(records_by(plain::read, &input), records, "the literal reader's records: {line}");
+        // `sector answer place`
+        let sectors = records.lines().filter(|record| !record.starts_with("refused"));
+        answers.extend(sectors.filter_map(|record| record.split(' ').nth(1)?.parse::<u8>().ok()));
         tally.input();
     }
+    assert!(answers.into_iter().eq(ANSWERS), "the answers of the kept vectors");
     tally.report();
 }
 
@@ -74,5 +80,6 @@ fn kept_files() {
         assert_eq!(said(sections(&mut rng, plain_file::read, &file)), kept, "literal reading: {line}");
     }
     tally.has_met(Row::FileRead, &[0, 31, 32, 33, 34, 35]);
+    tally.has_met(Row::FileAnswer, &ANSWERS);
     tally.report();
 }

@@ -1,2 +1,4 @@
 -- the papers' numbers of the answers
 pub mod Numbering
+-- what a whole block answers, case by case
+pub mod Letters

@@ -1,4 +1,4 @@
--- What a sector's record holds: what it answers, with the papers' numbers (01, "How a track is read"), and its place (02, Req 01).
+-- What a sector's record holds: what it answers, with the papers' numbers (01, "How a track is read"; 02, Req 04), and its place (02, Req 01).
 use mathlib.Core.Bool.{Bool, true, false, cond}
 use mathlib.Core.List.{List, [], _∷_}
 use Prim.Native.Nat.{ℕ, _-_}
@@ -6,14 +6,14 @@ use lib.Dec.{eqb}
 use lib.ListN.{getD, replicate}
 use Rattle.layouts.specs.Layouts.{mostSectors}
 use Rattle.answers.specs.declared.Fault.{Fault}
-use Rattle.answers.specs.declared.Fault.the-variants.{NoIdentifier, Doubled, NoBlock, PastEnd, OpenMark, WrongEdc}
+use Rattle.answers.specs.declared.Fault.the-variants.{NoIdentifier, Doubled, NoBlock, PastEnd, OpenMark, WrongEdc, ForbiddenLetter}
 use Rattle.answers.specs.declared.Answer.{Answer}
-use Rattle.answers.specs.declared.Answer.the-variants.{Data, Control, Refused}
+use Rattle.answers.specs.declared.Answer.the-variants.{Data, Control, Defective, Refused}
 use Rattle.answers.specs.declared.Answered.{Answered}
 use Rattle.answers.specs.declared.Record.{Record}
 use Rattle.answers.specs.declared.Records.{Records}
 
--- The number of a fault (01, "How a track is read").
+-- The number of a fault (01, "How a track is read"; 27: 02, Req 04).
 abbrev pub faultNumber : Fault → ℕ
 faultNumber NoIdentifier = 21
 faultNumber Doubled = 22
@@ -21,23 +21,27 @@ faultNumber NoBlock = 23
 faultNumber PastEnd = 24
 faultNumber OpenMark = 25
 faultNumber WrongEdc = 26
+faultNumber ForbiddenLetter = 27
 
--- The number of an answer.
+-- The number of an answer (3: 02, Req 04).
 abbrev pub answerNumber : Answer → ℕ
 answerNumber (Refused fault) = faultNumber fault
 answerNumber Data = 1
 answerNumber Control = 2
+answerNumber Defective = 3
 
 -- The answers that have numbers of their own; any other number counts as 21.
 abbrev pub answers : List Answer
 answers =
     Data
     ∷ Control
+    ∷ Defective
     ∷ Refused Doubled
     ∷ Refused NoBlock
     ∷ Refused PastEnd
     ∷ Refused OpenMark
     ∷ Refused WrongEdc
+    ∷ Refused ForbiddenLetter
     ∷ []
 
 -- The answer among these that has the number; where none has it, 21: no accepted identifier.
@@ -49,11 +53,12 @@ answerAmong (answer ∷ more) number = cond (eqb number (answerNumber answer)) a
 unfoldable pub answerOf : ℕ → Answer
 answerOf = answerAmong answers
 
--- An answer carries the sector's bytes.
+-- An answer carries the sector's bytes. (3 joins 1 and 2 in the file and the pick: 02, Req 04.)
 abbrev pub carries : Answer → Bool
 carries (Refused fault) = false
 carries Data = true
 carries Control = true
+carries Defective = true
 
 -- The place of a sector that has none (02, Req 01).
 abbrev pub noPlace : ℕ

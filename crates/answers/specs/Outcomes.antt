@@ -3,6 +3,8 @@ use mathlib.Core.Bool.{Bool}
 use mathlib.Core.Path.{_≡_}
 use Prim.Native.Nat.{ℕ}
 use Rattle.answers.specs.Answers.{faultNumber, answerNumber, answerOf, carries, unreadRecords}
+use Rattle.answers.specs.Letters.{answerAfter}
+use Rattle.marks.specs.declared.Mark.{Mark}
 use Rattle.answers.specs.declared.Fault.{Fault}
 use Rattle.answers.specs.declared.Answer.{Answer}
 use Rattle.answers.specs.declared.Records.{Records}
@@ -20,6 +22,10 @@ IsAnswerNumber answer number = number ≡ answerNumber answer
 
 abbrev pub IsAnswerOf : ℕ → Answer → Type 0
 IsAnswerOf number answer = answer ≡ answerOf number
+
+-- `answer_after` answers what a whole block does after its mark.
+abbrev pub IsAnswerAfter : (cylinder : ℕ) → Mark → (first : ℕ) → (right : Bool) → Answer → Type 0
+IsAnswerAfter cylinder mark first right answer = answer ≡ answerAfter cylinder mark first right
 
 -- `carries_bytes` answers whether the answer carries the sector's bytes.
 abbrev pub TellsCarrying : Answer → Bool → Type 0

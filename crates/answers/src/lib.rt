@@ -1,8 +1,14 @@
-// What a sector answers and where its mark is: its record, and the numbers that the papers give the answers.
+// What a sector answers and where its mark is: its record, the numbers that the papers give the answers, and what a whole block answers.
+use calls::LETTER_D;
 use layouts::MOST_SECTORS;
-ghost use Rattle.answers.specs.Outcomes.{AreUnread, IsFaultNumber, IsAnswerNumber, IsAnswerOf, TellsCarrying};
+use marks::Mark;
+ghost use mathlib.Core.Path.{_≡_};
+ghost use lib.Dec.{eqb};
+ghost use Rattle.marks.specs.Marks.{markByte};
+ghost use Rattle.marks.specs.declared.Mark.the-variants.{Control};
+ghost use Rattle.answers.specs.Outcomes.{AreUnread, IsFaultNumber, IsAnswerNumber, IsAnswerOf, IsAnswerAfter, TellsCarrying};
 
-// Why a sector is refused, in the order of the papers' numbers 21 to 26.
+// Why a sector is refused, in the order of the papers' numbers 21 to 27.
 pub enum Fault {
     // no accepted identifier
     NoIdentifier,
@@ -16,6 +22,8 @@ pub enum Fault {
     OpenMark,
     // EDC wrong
     WrongEdc,
+    // a control record on cylinder 0 that does not begin with D
+    ForbiddenLetter,
 }
 
 // What a sector answers. (Refused stands first: what the logic reads past an array's end is each enum's first case.)
@@ -26,7 +34,12 @@ pub enum Answer {
     Data,
     // control mark, EDC right; the slot holds the bytes
     Control,
+    // control mark and the letter F, EDC right or wrong: a defective area; the slot holds F and zeros
+    Defective,
 }
+
+// CAPITAL LETTER F, with which a control record begins whose sector contains a defective area.
+pub const LETTER_F: u8 = 0x46;
 
 // The place of a sector that has none: no image has such a cell.
 pub const NO_PLACE: u32 = 4294967295;
@@ -74,6 +87,7 @@ pub fn fault_number(fault: Fault) -> u8
         Fault::PastEnd => 24,
         Fault::OpenMark => 25,
         Fault::WrongEdc => 26,
+        Fault::ForbiddenLetter => 27,
     }
 }
 
@@ -85,6 +99,7 @@ pub fn answer_number(answer: Answer) -> u8
         Answer::Refused(fault) => fault_number(fault),
         Answer::Data => 1,
         Answer::Control => 2,
+        Answer::Defective => 3,
     }
 }
 
@@ -95,11 +110,13 @@ pub fn answer_of(number: u32) -> Answer
     match number {
         1 => Answer::Data,
         2 => Answer::Control,
+        3 => Answer::Defective,
         22 => Answer::Refused(Fault::Doubled),
         23 => Answer::Refused(Fault::NoBlock),
         24 => Answer::Refused(Fault::PastEnd),
         25 => Answer::Refused(Fault::OpenMark),
         26 => Answer::Refused(Fault::WrongEdc),
+        27 => Answer::Refused(Fault::ForbiddenLetter),
         _ => Answer::Refused(Fault::NoIdentifier),
     }
 }
@@ -112,5 +129,42 @@ pub fn carries_bytes(answer: Answer) -> bool
         Answer::Refused(_) => false,
         Answer::Data => true,
         Answer::Control => true,
+        Answer::Defective => true,
     }
+}
+
+// Whether the mark is that of a control record.
+fn is_control(mark: Mark) -> bool
+    ensures { λ r. ⌜ r ≡ eqb (markByte mark) (markByte Control) ⌝ }
+{
+    match mark {
+        Mark::Index => false,
+        Mark::Identifier => false,
+        Mark::Data => false,
+        Mark::Control => true,
+        Mark::Open => false,
+    }
+}
+
+// What a whole block answers after its mark, data or control, by its first data byte and whether its EDC is right. The tests stand in the order of the
+// papers; their flags are joined by `&`, so that no branch has to be followed.
+pub fn answer_after(cylinder: u32, mark: Mark, first: u8, right: bool) -> Answer
+    ensures { λ r. ⌜ IsAnswerAfter cylinder mark first right r ⌝ }
+{
+    let control = is_control(mark);
+    let defective = control & (cylinder != 0) & (first == LETTER_F);
+    let forbidden = (cylinder == 0) & control & (first != LETTER_D);
+    if defective {
+        return Answer::Defective;
+    }
+    if !right {
+        return Answer::Refused(Fault::WrongEdc);
+    }
+    if forbidden {
+        return Answer::Refused(Fault::ForbiddenLetter);
+    }
+    if control {
+        return Answer::Control;
+    }
+    Answer::Data
 }

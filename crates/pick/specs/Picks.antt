@@ -1,5 +1,5 @@
--- The sector that is handed back of two passes over one track: the stretch of whichever pass answered 1 or 2, the first before the second; never
--- one put together from both (01, "Two passes").
+-- The sector that is handed back of two passes over one track: the stretch of whichever pass answered with bytes, 1, 2 or 3, the first before the second;
+-- never one put together from both (01, "Two passes"; 02, Req 04).
 use mathlib.Core.Bool.{cond}
 use mathlib.Core.List.{List, [], _∷_, _++_}
 use mathlib.Core.Path.{_≡_}

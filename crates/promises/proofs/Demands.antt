@@ -6,13 +6,15 @@ use Prim.Native.Nat.{ℕ, _*_, _≤_}
 use native.Mathlib.Omega.{arith}
 use lib.ListN.{length, replicate}
 use Rattle.cells.specs.Cells.{cell}
-use Rattle.layouts.specs.Layouts.{layoutOf}
+use Rattle.format.specs.Order.{Numbered}
+use Rattle.layouts.specs.Layouts.{layoutOf, slotIn}
 use Rattle.calls.specs.Refusals.{refusalNumber, checkedNumber}
 use Rattle.layouts.specs.Tracks.{trackOf}
+use Rattle.layouts.specs.declared.Track.{Track}
 use Rattle.calls.specs.declared.Checked.the-variants.{Passed, Refused}
 use Rattle.calls.specs.declared.Refusal.{Refusal}
 use Rattle.calls.proofs.Refusals.{number-told, numbers-apart, number-known}
-use Rattle.read.specs.Records.{slotOf, refused as refusing, blockAnswer, blockBytes, identifierRecord, recordFor, sectorOf, areaOf}
+use Rattle.read.specs.Records.{slotOf, refused as refusing, blockAnswer, blockBytes, identifierRecord, recordFor, sectorOf}
 use Rattle.answers.specs.Answers.{answerNumber, carries, noPlace, recordAt}
 use Rattle.read.specs.Outcomes.{reading, refusedReading, readTests, readAnswer, readArea, Reads}
 use Rattle.pick.specs.Picks.{choice, pickTests, chosenOf, stretchIn}
@@ -40,6 +42,7 @@ use Rattle.locate.specs.declared.Located.the-variants as locate
 use lib.Dec.{leb}
 use Rattle.promises.specs.Reading.{NothingOldShows, RefusedLeavesZeros, RefusedSlotsAreZero, RefusedSectorsLeaveZeros, OfOnePass, PartOfOnePass}
 use Rattle.promises.specs.Refusing.{NumbersApart, RefusedBy, FormatRefuses, ReadRefuses, LocateRefuses, PickRefuses, RequestRefuses, StepRefuses}
+use Rattle.promises.specs.Sectors.{sectorIn}
 use Rattle.promises.proofs.formatting.Calls.{record-read, slot-read}
 
 pub numbers-are-apart : NumbersApart
@@ -67,6 +70,7 @@ zero-slot : (size : ℕ) (a : Answer) (bytes : List ℕ) → 21 ≤ answerNumber
 zero-slot size (answers.Refused f) bytes h = refl
 zero-slot size answers.Data bytes h = absurd (omega arith)
 zero-slot size answers.Control bytes h = absurd (omega arith)
+zero-slot size answers.Defective bytes h = absurd (omega arith)
 
 pub refused-slots-are-zero : RefusedSlotsAreZero
 unfolding sectorOf recordFor identifierRecord
@@ -108,17 +112,27 @@ module _ (layout cylinder side : ℕ) (image : List ℕ) (given : ℕ) (answer :
   unfolding readAnswer
   passed-reading = p .answers ∙ taken _ tests-passed (reading (trackOf layout cylinder side) image) refusedReading
 
+  -- Of each of its sectors, the number of the answer, and the slot.
+  module _ (s : ℕ) (named : Numbered (layoutOf layout) s) where
+    abbrev t : Track
+    t = trackOf layout cylinder side
+
+    pub passed-number : answerNumber (recordAt (answer .records) s .answer) ≡ answerNumber (sectorIn t image s .known .answer)
+    passed-number =
+        ap (λ (r : Reading). answerNumber (recordAt (r .records) s .answer)) passed-reading
+        ∙ ap (λ (r : Record). answerNumber (r .answer)) (record-read t image s (named .0) (named .1) (modest layout .1))
+
+    pub passed-slot : slotIn (layoutOf layout .size) s after ≡ sectorIn t image s .slot
+    unfolding readArea
+    passed-slot =
+        let v = refusal (readTests layout cylinder side (length image) given) in
+        slot-read t image s (named .0) (named .1) (modest layout .2) after (p .leaves ∙ taken v tests-passed _ (λ f. replicate given 0))
+
 pub refused-sectors-leave-zeros : RefusedSectorsLeaveZeros
-unfolding readArea
-refused-sectors-leave-zeros layout cylinder side image given answer after s p passes number high =
-    let t = trackOf layout cylinder side in
-    let accepted = tests-passed layout cylinder side image given answer after p passes in
-    let told = passed-reading layout cylinder side image given answer after p passes in
-    let v = refusal (readTests layout cylinder side (length image) given) in
-    let left : after ≡ areaOf t (cell image) (8 * length image) (met t image) = p .leaves ∙ taken v accepted _ (λ f. replicate given 0) in
-    let same = ap (λ (r : Reading). answerNumber (recordAt (r .records) s .answer)) told
-    ∙ ap (λ (r : Record). answerNumber (r .answer)) (record-read t image s (number .0) (number .1) (modest layout .1)) in
-    slot-read t image s (number .0) (number .1) after left ∙ refused-slots-are-zero t image s (omega (arith, same))
+refused-sectors-leave-zeros layout cylinder side image given answer after s p passes named high =
+    let same = passed-number layout cylinder side image given answer after p passes s named in
+    passed-slot layout cylinder side image given answer after p passes s named
+    ∙ refused-slots-are-zero (trackOf layout cylinder side) image s (omega (arith, same))
 
 -- What is picked is one of the four, and no other.
 pub part-of-one-pass : PartOfOnePass

@@ -9,6 +9,7 @@ use native.Mathlib.Omega.{arith}
 use borrow.Author.Tests.{le-leb}
 use lib.ListN.{length, getD, replicate}
 use Rattle.format.specs.Refusals.{formatTests}
+use Rattle.format.specs.Order.{Numbered}
 use Rattle.layouts.specs.Layouts.{layoutOf, mostSectors, slotIn}
 use Rattle.calls.specs.Refusals.{refusalNumber}
 use Rattle.layouts.specs.Tracks.{trackOf}
@@ -18,12 +19,12 @@ use Rattle.calls.specs.declared.Refusal.{Refusal}
 use Rattle.calls.proofs.Refusals.{told-passing, numbers-apart, number-known}
 use Rattle.answers.specs.Answers.{answerNumber, carries, recordAt}
 use Rattle.read.specs.Records.{slots}
-use Rattle.read.specs.Outcomes.{reading, refusedReading, readTests, readAnswer, readArea}
+use Rattle.read.specs.Outcomes.{reading, refusedReading, readTests, readAnswer, readArea, Reads}
 use Rattle.pick.specs.Picks.{areaTests, pickTests, choice, chosenOf}
 use Rattle.answers.specs.declared.Answer.{Answer}
 use Rattle.answers.specs.declared.Answer.the-variants as answers
 use Rattle.pick.specs.declared.Choice.the-variants as pick
-use Rattle.answers.specs.declared.Fault.the-variants.{NoIdentifier, Doubled, NoBlock, PastEnd, OpenMark, WrongEdc}
+use Rattle.answers.specs.declared.Fault.the-variants.{NoIdentifier, Doubled, NoBlock, PastEnd, OpenMark, WrongEdc, ForbiddenLetter}
 use Rattle.read.specs.declared.Reading.{Reading}
 use Rattle.answers.specs.declared.Record.{Record}
 use Rattle.answers.specs.declared.Records.{Records}
@@ -51,20 +52,22 @@ use Rattle.promises.proofs.formatting.Calls.{format-then-read}
 answer-apart : (a : Answer) (f : Refusal) → (refusalNumber f ≡ 4) ⊎ ((refusalNumber f ≡ 9) ⊎ (refusalNumber f ≡ 5)) → answerNumber a ≡ refusalNumber f → ⊥
 answer-apart a f h e = go a (known h)
   where
-    known : (refusalNumber f ≡ 4) ⊎ ((refusalNumber f ≡ 9) ⊎ (refusalNumber f ≡ 5)) → (3 ≤ answerNumber a) × (answerNumber a ≤ 20)
+    known : (refusalNumber f ≡ 4) ⊎ ((refusalNumber f ≡ 9) ⊎ (refusalNumber f ≡ 5)) → (4 ≤ answerNumber a) × (answerNumber a ≤ 20)
     known (inl x) = (omega arith, omega arith)
     known (inr (inl x)) = (omega arith, omega arith)
     known (inr (inr x)) = (omega arith, omega arith)
 
-    go : (a : Answer) → (3 ≤ answerNumber a) × (answerNumber a ≤ 20) → ⊥
+    go : (a : Answer) → (4 ≤ answerNumber a) × (answerNumber a ≤ 20) → ⊥
     go (answers.Refused NoIdentifier) k = absurd (omega arith)
     go (answers.Refused Doubled) k = absurd (omega arith)
     go (answers.Refused NoBlock) k = absurd (omega arith)
     go (answers.Refused PastEnd) k = absurd (omega arith)
     go (answers.Refused OpenMark) k = absurd (omega arith)
     go (answers.Refused WrongEdc) k = absurd (omega arith)
+    go (answers.Refused ForbiddenLetter) k = absurd (omega arith)
     go answers.Data k = absurd (omega arith)
     go answers.Control k = absurd (omega arith)
+    go answers.Defective k = absurd (omega arith)
 
 pick-numbers : (layout sector first second : ℕ) (f : Refusal) → Listed f (pickTests layout sector first second)
     → (refusalNumber f ≡ 4) ⊎ ((refusalNumber f ≡ 9) ⊎ (refusalNumber f ≡ 5))
@@ -159,15 +162,31 @@ accepted-read layout cylinder side image given area records counts p =
     let v = refusal (readTests layout cylinder side (length image) given) in
     taken v (by-passed 0 refusalNumber none numbers-apart v 0 (p .numbered) refl) (reading (trackOf layout cylinder side) image) refusedReading
 
+module _ (layout cylinder side : ℕ) (image : List ℕ) (given : ℕ) (area records counts : List ℕ)
+    (p : GivesRead layout cylinder side image given 0 area records counts) where
+  -- It is a read that is not refused,
+  pub accepted-reads : Reads layout cylinder side image given (readAnswer layout cylinder side image given) area
+  accepted-reads = record { answers = refl; leaves = p .leaves }
+
+  pub accepted-verdict : readAnswer layout cylinder side image given .verdict ≡ Passed
+  accepted-verdict = ap (λ (r : Reading). r .verdict) (accepted-read layout cylinder side image given area records counts p)
+
+  -- and the numbers of its answers are those that are handed out.
+  pub accepted-number : (s : ℕ) → Numbered (layoutOf layout) s
+      → answerIn records s ≡ answerNumber (recordAt (readAnswer layout cylinder side image given .records) s .answer)
+  accepted-number s named =
+      let hands = readAnswer layout cylinder side image given in
+      let told = accepted-read layout cylinder side image given area records counts p in
+      let inside : s ≤ hands .sectors = rw told (named .1) in
+      let few : hands .sectors ≤ mostSectors = rw told (modest layout .1) in
+      ap (λ (xs : List ℕ). answerIn xs s) (p .recorded) ∙ answer-in (hands .sectors) (hands .records) s (named .0) inside few
+
 pub refused-sectors-give-zeros : RefusedSectorsGiveZeros
 refused-sectors-give-zeros layout cylinder side image given area records counts s p named high =
-    let hands = readAnswer layout cylinder side image given in
-    let told = accepted-read layout cylinder side image given area records counts p in
-    let inside : s ≤ hands .sectors = rw told (named .1) in
-    let few : hands .sectors ≤ mostSectors = rw told (modest layout .1) in
-    let same = ap (λ (xs : List ℕ). answerIn xs s) (p .recorded) ∙ answer-in (hands .sectors) (hands .records) s (named .0) inside few in
-    refused-sectors-leave-zeros layout cylinder side image given hands area s (record { answers = refl; leaves = p .leaves })
-    (ap (λ (r : Reading). r .verdict) told) named (omega (arith, same))
+    let same = accepted-number layout cylinder side image given area records counts p s named in
+    refused-sectors-leave-zeros layout cylinder side image given (readAnswer layout cylinder side image given) area s
+    (accepted-reads layout cylinder side image given area records counts p) (accepted-verdict layout cylinder side image given area records counts p) named
+    (omega (arith, same))
 
 pub gives-back-as-written : GivesBackAsWritten
 unfolding readAnswer

@@ -10,7 +10,7 @@ use lib.ListN.{length}
 use Rattle.answers.specs.Answers.{noPlace, recordAt}
 use Rattle.answers.specs.declared.Answer.{Answer}
 use Rattle.answers.specs.declared.Answer.the-variants as answers
-use Rattle.answers.specs.declared.Fault.the-variants.{NoIdentifier, Doubled, NoBlock, PastEnd, OpenMark, WrongEdc}
+use Rattle.answers.specs.declared.Fault.the-variants.{NoIdentifier, Doubled, NoBlock, PastEnd}
 use Rattle.answers.specs.declared.Record.{Record}
 use Rattle.calls.specs.declared.Checked.the-variants.{Refused}
 use Rattle.calls.specs.declared.Refusal.{Refusal}
@@ -23,14 +23,17 @@ use Rattle.layouts.specs.Tracks.{trackOf}
 use Rattle.layouts.specs.declared.Track.{Track}
 use Rattle.locate.specs.Outcomes.{located, locateTests, found, Locates}
 use Rattle.locate.specs.declared.Located.the-variants as locate
-use Rattle.marks.specs.Marks.{stands}
+use Rattle.marks.specs.Marks.{markByte, stands}
 use Rattle.marks.specs.declared.Mark.{Mark}
 use Rattle.marks.specs.declared.Mark.the-variants.{Data, Control, Open}
 use Rattle.marks.proofs.Spelling.{stands-room, string-two}
-use Rattle.read.specs.Records.{Sector, refused as refusing, proved, blockAnswer, identifierRecord, recordFor, sectorOf}
+use Rattle.read.specs.Records.{Sector, refused as refusing, blockAfter, blockAnswer, identifierRecord, recordFor, sectorOf}
 use Rattle.read.specs.Outcomes.{reading, readAnswer}
 use Rattle.read.specs.declared.Reading.{Reading}
+use Rattle.answers.specs.Letters.{answerAfter}
+use Rattle.answers.proofs.Letters.{defective-control, forbidden-control, answer-cases}
 use Rattle.read.proofs.Passing.{modest}
+use Rattle.read.proofs.Recording.{block-cases}
 use Rattle.station.specs.Outcomes.{GivesRead}
 use Rattle.station.specs.Records.{numberedAt}
 use Rattle.station.proofs.Passes.{read-back}
@@ -38,7 +41,6 @@ use Rattle.verdicts.specs.Tests.{Verdict, passed, refused, refusal, by}
 use Rattle.verdicts.proofs.Tests.{clash, passed-both, first-passed}
 use Rattle.walk.specs.Events.{blocks}
 use Rattle.walk.specs.Outcomes.{met}
-use Rattle.walk.specs.Walk.{edcRight}
 use Rattle.walk.specs.Turns.{BlockStands}
 use Rattle.walk.specs.declared.Block.{Block}
 use Rattle.walk.specs.declared.Block.the-variants.{Missing, Beyond, Within}
@@ -78,23 +80,29 @@ module _ (t : Track) (image : List ℕ) where
 
   -- A block answers by the mark that stands there.
   block-said : (m : ℕ) → BlockStands (t .layout .mode) c n m → OneStands t image m (said (blockAnswer t c n m))
-  unfolding blockAnswer proved
+  unfolding blockAfter
   block-said m s =
-      go (stands (t .layout .mode) c n Open m) refl (stands (t .layout .mode) c n Control m) refl (edcRight (t .layout .mode) c Control _ _)
-      (edcRight (t .layout .mode) c Data _ _) (one-of-three m s)
+      block-cases t c n (λ (a : Answer). OneStands t image m (said a)) m (λ o. inl o) (λ k. after-control _ _ k) (λ o k. after-data _ _ (plain (one-of-three m s) o k))
     where
-      go : (o : Bool) → stands (t .layout .mode) c n Open m ≡ o → (k : Bool) → stands (t .layout .mode) c n Control m ≡ k → (x y : Bool)
-          → OneStands t image m (Data ∷ Control ∷ Open ∷ [])
-          → OneStands t image m (said
-          (cond o (answers.Refused OpenMark)
-          (cond k (cond x answers.Control (answers.Refused WrongEdc)) (cond y answers.Data (answers.Refused WrongEdc)))))
-      go true e k f x y h = inl e
-      go false e true f true y h = inl f
-      go false e true f false y h = inr (inl f)
-      go false e false f x true (inl d) = inl d
-      go false e false f x false (inl d) = inl d
-      go false e false f x y (inr (inl d)) = absurd (clash cc)
-      go false e false f x y (inr (inr (inl d))) = absurd (clash cc)
+      plain : OneStands t image m (Data ∷ Control ∷ Open ∷ []) → stands (t .layout .mode) c n Open m ≡ false
+          → stands (t .layout .mode) c n Control m ≡ false → stands (t .layout .mode) c n Data m ≡ true
+      plain (inl d) o k = d
+      plain (inr (inl d)) o k = absurd (clash cc)
+      plain (inr (inr (inl d))) o k = absurd (clash cc)
+
+      -- after a control mark all answers but 1, and after a data mark 1 and 26
+      after-control : (first : ℕ) (right : Bool) → stands (t .layout .mode) c n Control m ≡ true
+          → OneStands t image m (said (answerAfter (t .cylinder) Control first right))
+      after-control first right h =
+          answer-cases (λ (a : Answer). OneStands t image m (said a)) (t .cylinder) Control first right (λ d. inl h) (inr (inl h)) (λ f. inl h)
+          (λ d f k. inl h) (λ k. absurd (clash cc))
+
+      after-data : (first : ℕ) (right : Bool) → stands (t .layout .mode) c n Data m ≡ true
+          → OneStands t image m (said (answerAfter (t .cylinder) Data first right))
+      after-data first right h =
+          answer-cases (λ (a : Answer). OneStands t image m (said a)) (t .cylinder) Data first right
+          (λ d. let k = defective-control (t .cylinder) (markByte Data) first d in absurd (clash cc)) (inl h)
+          (λ f. let k = forbidden-control (t .cylinder) (markByte Data) first f in absurd (clash cc)) (λ d f k. absurd (clash cc)) (λ k. inl h)
 
   -- A record without a place, and one with.
   unmarked : (a : Answer) → said a ≡ [] → Marked t image (record { answer = a; place = noPlace })

@@ -12,12 +12,14 @@ use Rattle.layouts.specs.Refusals.{readingTests}
 use Rattle.layouts.specs.Tracks.{trackOf}
 use Rattle.calls.specs.declared.Refusal.{Refusal}
 use Rattle.layouts.specs.declared.Track.{Track}
-use Rattle.marks.specs.Marks.{stands}
+use Rattle.marks.specs.declared.Mark.{Mark}
 use Rattle.marks.specs.declared.Mark.the-variants as marks
 use Rattle.answers.specs.Answers.{answerNumber}
-use Rattle.read.specs.Records.{proved, blockAnswer, identifierRecord, recordFor, sectorOf}
-use Rattle.answers.specs.declared.Answer.the-variants as answers
-use Rattle.answers.specs.declared.Fault.the-variants.{OpenMark, WrongEdc}
+use Rattle.read.specs.Records.{blockAfter, blockAnswer, identifierRecord, recordFor, sectorOf}
+use Rattle.read.proofs.Recording.{block-cases}
+use Rattle.answers.specs.Letters.{answerAfter}
+use Rattle.answers.proofs.Letters.{answer-cases}
+use Rattle.answers.specs.declared.Answer.{Answer}
 use Rattle.request.specs.Outcomes.{requestedNumber, firstPlan}
 use Rattle.request.specs.Refusals.{isWithin, boundaryTest, callTests, placeTests, requestTests}
 use Rattle.request.specs.declared.Requested.the-variants as request
@@ -26,7 +28,6 @@ use Rattle.verdicts.proofs.Tests.{clash, append-passed, passed-both, first-pass
 use Rattle.walk.specs.Events.{blocks}
 use Rattle.locate.specs.Outcomes.{located, locateTests}
 use Rattle.walk.specs.Outcomes.{met}
-use Rattle.walk.specs.Walk.{edcRight}
 use Rattle.walk.specs.declared.Block.{Block}
 use Rattle.walk.specs.declared.Block.the-variants.{Missing, Beyond, Within}
 use Rattle.locate.specs.declared.Located.{Located}
@@ -35,26 +36,20 @@ use Rattle.promises.specs.Refusing.{Unreadable, TenAsRead}
 
 -- ---- what reading answers
 
--- The number of a block's answer, by its mark and its EDC.
-abbrev number : Bool → Bool → Bool → Bool → ℕ
-number o k x y =
-    answerNumber (cond o (answers.Refused OpenMark)
-    (cond k (cond x answers.Control (answers.Refused WrongEdc)) (cond y answers.Data (answers.Refused WrongEdc))))
-
 module _ (t : Track) (c : ℕ → ℕ) (n : ℕ) where
-  -- A block within the image answers 1, 2, 25 or 26.
-  block-readable : (m : ℕ) → (21 ≤ answerNumber (blockAnswer t c n m)) × (answerNumber (blockAnswer t c n m) ≤ 24) → ⊥
-  unfolding blockAnswer proved
-  block-readable m u =
-      go (stands (t .layout .mode) c n marks.Open m) (stands (t .layout .mode) c n marks.Control m)
-      (edcRight (t .layout .mode) c marks.Control _ _) (edcRight (t .layout .mode) c marks.Data _ _) (u .0) (u .1)
+  -- A block within the image answers none of 21 to 24.
+  abbrev readable : Answer → Type 0
+  readable a = (21 ≤ answerNumber a) × (answerNumber a ≤ 24) → ⊥
+
+  block-readable : (m : ℕ) → readable (blockAnswer t c n m)
+  unfolding blockAfter
+  block-readable m =
+      block-cases t c n readable m (λ o u. absurd (omega (arith, u .1))) (λ k. after marks.Control _ _) (λ o k. after marks.Data _ _)
     where
-      go : (o k x y : Bool) → 21 ≤ number o k x y → number o k x y ≤ 24 → ⊥
-      go true k x y a b = absurd (omega arith)
-      go false true true y a b = absurd (omega arith)
-      go false true false y a b = absurd (omega arith)
-      go false false x true a b = absurd (omega arith)
-      go false false x false a b = absurd (omega arith)
+      after : (mark : Mark) (first : ℕ) (right : Bool) → readable (answerAfter (t .cylinder) mark first right)
+      after mark first right =
+          answer-cases readable (t .cylinder) mark first right (λ d u. absurd (omega (arith, u .0))) (λ u. absurd (omega (arith, u .1)))
+          (λ f u. absurd (omega (arith, u .1))) (λ d f k u. absurd (omega (arith, u .0))) (λ k u. absurd (omega (arith, u .0)))
 
   -- The walk finds no block exactly where reading answers 21 to 24.
   unfound : (bs : List Block) → isWithin (located bs) ≡ false → Unreadable (recordFor t c n bs)

@@ -46,7 +46,7 @@ pub record DoorsRefuse : Type 0 where
   pub step : (before : List ℕ) (mark : ℕ) (contents image : List ℕ) (number : ℕ) (plan after : List ℕ)
       → GivesStep before mark contents image number plan after
       → RefusedBy (stepTests (numberedPlan before) mark contents image) number
-  -- and of the pick, whose answers 1 and 2 are numbers of refusals too: for each refusal that its list has.
+  -- and of the pick, whose answers 1, 2 and 3 are numbers of refusals too: for each refusal that its list has.
   pub pick : (layout sector : ℕ) (first ones second twos : List ℕ) (number : ℕ) (taken handed : List ℕ)
       → GivesPick layout sector first ones second twos number taken handed
       → (f : Refusal) → Listed f (pickTests layout sector (length first) (length second))

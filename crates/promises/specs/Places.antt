@@ -8,7 +8,7 @@ use lib.ListN.{length, getD}
 use Rattle.answers.specs.Answers.{noPlace, recordAt}
 use Rattle.answers.specs.declared.Answer.{Answer}
 use Rattle.answers.specs.declared.Answer.the-variants as answers
-use Rattle.answers.specs.declared.Fault.the-variants.{NoIdentifier, Doubled, NoBlock, PastEnd, OpenMark, WrongEdc}
+use Rattle.answers.specs.declared.Fault.the-variants.{NoIdentifier, Doubled, NoBlock, PastEnd, OpenMark, WrongEdc, ForbiddenLetter}
 use Rattle.answers.specs.declared.Record.{Record}
 use Rattle.calls.specs.declared.Checked.the-variants.{Passed}
 use Rattle.cells.specs.Cells.{cell}
@@ -32,13 +32,15 @@ use Rattle.walk.specs.declared.Block.the-variants.{Beyond, Within}
 use Rattle.promises.specs.Doors.{placeIn}
 use Rattle.promises.specs.Sectors.{sectorIn}
 
--- The marks that an answer says (01, "How a track is read"): 1 a data mark and 2 a control mark, 25 an open one; 26 one of the first two, and 24 one
--- of the three. 21, 22 and 23 say none.
+-- The marks that an answer says (01, "How a track is read"; 02, Req 04): 1 a data mark, 2, 3 and 27 a control mark, 25 an open one; 26 one of the first
+-- two, and 24 one of the three. 21, 22 and 23 say none.
 abbrev pub said : Answer → List Mark
 said answers.Data = Data ∷ []
 said answers.Control = Control ∷ []
+said answers.Defective = Control ∷ []
 said (answers.Refused OpenMark) = Open ∷ []
 said (answers.Refused WrongEdc) = Data ∷ Control ∷ []
+said (answers.Refused ForbiddenLetter) = Control ∷ []
 said (answers.Refused PastEnd) = Data ∷ Control ∷ Open ∷ []
 said (answers.Refused NoIdentifier) = []
 said (answers.Refused Doubled) = []

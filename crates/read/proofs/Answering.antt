@@ -1,6 +1,6 @@
--- What a block answers, by its mark and its EDC, and what it leaves in the slot; what an identifier makes of its sector, and one more of them.
+-- What a block answers, by its mark, and what it leaves in the slot; what an identifier makes of its sector, and one more of them.
 use mathlib.Core.Path.{_≡_, refl, sym, ap, ap₂, _∙_}
-use mathlib.Core.Bool.{Bool, true, false, cond}
+use mathlib.Core.Bool.{Bool, true, false}
 use mathlib.Core.List.{List}
 use mathlib.Core.Logic.{inl, inr}
 use Prim.Native.Nat.{ℕ, _+_, _≤_}
@@ -13,17 +13,16 @@ use Rattle.marks.specs.declared.Mark.{Mark}
 use Rattle.marks.specs.declared.Mark.the-variants as marks
 use Rattle.marks.proofs.Spelling.{one-mark, is-false}
 use Rattle.verdicts.proofs.Tests.{clash}
-use Rattle.walk.specs.Walk.{edcRight}
 use Rattle.walk.specs.Turns.{BlockStands, Placed}
 use Rattle.walk.specs.declared.Block.{Block}
 use Rattle.walk.specs.declared.Block.the-variants.{Missing, Beyond, Within}
-use Rattle.read.specs.Records.{Sector, slotOf, refused, proved, blockAnswer, blockBytes, identifierRecord}
-use Rattle.read.specs.Turns.{Leaves, Gives, placeOf, unmet, next}
+use Rattle.read.specs.Records.{Sector, slotOf, refused, blockAfter, blockAnswer, blockBytes, identifierRecord}
+use Rattle.read.specs.Turns.{Leaves, Gives, Checks, placeOf, unmet, next}
 use Rattle.answers.specs.Answers.{noPlace}
 use Rattle.answers.specs.declared.Fault.{Fault}
-use Rattle.answers.specs.declared.Fault.the-variants.{Doubled, NoBlock, PastEnd, OpenMark, WrongEdc}
+use Rattle.answers.specs.declared.Fault.the-variants.{Doubled, NoBlock, PastEnd, OpenMark}
 use Rattle.answers.specs.declared.Answer.{Answer}
-use Rattle.answers.specs.declared.Answer.the-variants.{Data, Control, Refused}
+use Rattle.answers.specs.declared.Answer.the-variants.{Refused}
 
 -- A refused answer with a slot of zeros is the refused sector's; k is the length of the slot that was lent.
 pub leaves-refused : {size place : ℕ} {sector : Sector} {r : Answer} {slot : List ℕ} (fault : Fault) (k : ℕ) → sector ≡ refused size fault place
@@ -42,14 +41,14 @@ module _ (t : Track) (c : ℕ → ℕ) (n m : ℕ) where
   other-mark j k apart e = is-false (stands (t .layout .mode) c n k m) (λ f. apart (one-mark (t .layout .mode) c n m j k e f))
 
   module _ (d : Bool) (told : d ≡ stands (t .layout .mode) c n marks.Data m) where
-    pub is-data : d ≡ true → blockAnswer t c n m ≡ proved t c n marks.Data Data m
+    pub is-data : d ≡ true → blockAnswer t c n m ≡ blockAfter t c n marks.Data m
     unfolding blockAnswer
     is-data h =
         let e : stands (t .layout .mode) c n marks.Data m ≡ true = sym told ∙ h in
         rw (other-mark marks.Data marks.Open (λ q. clash cc) e, other-mark marks.Data marks.Control (λ q. clash cc) e)
 
     module _ (k : Bool) (second : k ≡ stands (t .layout .mode) c n marks.Control m) where
-      pub is-control : k ≡ true → blockAnswer t c n m ≡ proved t c n marks.Control Control m
+      pub is-control : k ≡ true → blockAnswer t c n m ≡ blockAfter t c n marks.Control m
       unfolding blockAnswer
       is-control h =
           let e : stands (t .layout .mode) c n marks.Control m ≡ true = sym second ∙ h in
@@ -67,22 +66,13 @@ module _ (t : Track) (c : ℕ → ℕ) (n m : ℕ) where
       unfolding identifierRecord
       block-open j shut closed one g e = rw (is-open shut closed one) (g .0, g .1 ∙ ap (λ (i : ℕ). replicate i 0) e)
 
-  -- ---- what the EDC decides: w is the cells of the mark, k the length of the slot
+  -- ---- what the letter and the EDC decide: w is the cells of the mark, k the length of the slot
 
-  decided : (size : ℕ) (right : Bool) (good : Answer) (bytes : List ℕ) → slotOf size good bytes ≡ bytes
-      → cond right bytes (replicate size 0) ≡ slotOf size (cond right good (Refused WrongEdc)) bytes
-  decided size true good bytes e = sym e
-  decided size false good bytes e = refl
-
-  pub block-decided : {r : Answer} {slot : List ℕ} (mark : Mark) (good : Answer) (w k : ℕ) → w ≡ markCells (t .layout .mode) → k ≡ t .layout .size
-      → blockAnswer t c n m ≡ proved t c n mark good m → ((size : ℕ) (bytes : List ℕ) → slotOf size good bytes ≡ bytes)
-      → (r ≡ cond (edcRight (t .layout .mode) c mark (m + w) (k + 2)) good (Refused WrongEdc))
-      × (slot ≡ cond (edcRight (t .layout .mode) c mark (m + w) (k + 2)) (dataBytes c (m + w) k) (replicate k 0))
+  pub block-decided : {r : Answer} {slot : List ℕ} (mark : Mark) (w k : ℕ) → w ≡ markCells (t .layout .mode) → k ≡ t .layout .size
+      → blockAnswer t c n m ≡ blockAfter t c n mark m → Checks (t .cylinder) (t .layout .mode) mark c (m + w) k r slot
       → Leaves (identifierRecord t c n (Within m)) r slot
-  unfolding identifierRecord proved blockBytes
-  block-decided mark good w k u h e full g =
-      let right = edcRight (t .layout .mode) c mark (m + w) (k + 2) in
-      rw (e, ← u, ← h) (g .0, g .1 ∙ decided k right good (dataBytes c (m + w) k) (full k _))
+  unfolding identifierRecord blockAfter blockBytes
+  block-decided mark w k u h e g = rw (e, ← u, ← h) (g .0, g .1 ∙ ap (λ (a : Answer). slotOf k a (dataBytes c (m + w) k)) (g .0))
 
 -- ---- an identifier, and one more
 

@@ -4,7 +4,7 @@ pub mod Sectors
 pub mod Recording
 -- what the reader's loop holds
 pub mod States
--- how a slot is filled, and its EDC
+-- how a slot is filled, its EDC, and what is left of a defective area
 pub mod Filling
 -- what a block and an identifier make of their sector
 pub mod Answering

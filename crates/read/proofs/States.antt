@@ -65,13 +65,13 @@ module _ (t : Track) (c : ℕ → ℕ) (n : ℕ) where
         map-set (λ x. f (sectorOf t c n xs x)) (λ x. f (sectorOf t c n (xs ++ Accepted s b ∷ []) x)) s (λ x o. ap f (other-kept b x o)) mostSectors 1 low
         ∙ ap (λ (y : Sector). set (bySector t c n f xs) (s - 1) (f y)) (sector-next b d)
 
-    area-next : (b : Block) (d : Answered)
+    area-next : 1 ≤ t .layout .size → (b : Block) (d : Answered)
         → areaOf t c n (xs ++ Accepted s b ∷ [])
         ≡ sets (areaOf t c n xs) ((s - 1) * t .layout .size) (next t c n (getD (bySector t c n itsAnswer xs) (s - 1) d .answer) b .slot)
     unfolding areaOf
-    area-next b d =
+    area-next some b d =
         slots-set (t .layout .size) (λ x. sectorOf t c n xs x .slot) (λ x. sectorOf t c n (xs ++ Accepted s b ∷ []) x .slot) s
-        (λ x. length-sector t c n xs x) (λ x. length-sector t c n (xs ++ Accepted s b ∷ []) x)
+        (λ x. length-sector t c n some xs x) (λ x. length-sector t c n some (xs ++ Accepted s b ∷ []) x)
         (λ x o. ap (λ (y : Sector). y .slot) (other-kept b x o)) (t .layout .sectors) 1 low (omega arith)
         ∙ ap (λ (y : Sector). sets (areaOf t c n xs) ((s - 1) * t .layout .size) (y .slot)) (sector-next b d)
 
@@ -157,19 +157,19 @@ module _ (t : Track) (c : ℕ → ℕ) (n : ℕ) where
         }
 
     pub state-accepted : (s : ℕ) (b : Block) (d : Answered) {answers′ : List Answered} {places′ area′ : List ℕ} → left ≡ Accepted s b ∷ rest
-        → t .layout .sectors ≤ mostSectors → 1 ≤ s → s ≤ t .layout .sectors
+        → t .layout .sectors ≤ mostSectors → 1 ≤ t .layout .size → 1 ≤ s → s ≤ t .layout .sectors
         → answers′ ≡ set answers (s - 1) (itsAnswer (next t c n (getD answers (s - 1) d .answer) b))
         → places′ ≡ set places (s - 1) (itsPlace (next t c n (getD answers (s - 1) d .answer) b))
         → area′ ≡ sets area ((s - 1) * t .layout .size) (next t c n (getD answers (s - 1) d .answer) b .slot)
         → State all rest answers′ places′ area′ bad foreign
     unfolding bads foreigns
-    state-accepted s b d f few low high r p a =
+    state-accepted s b d f few some low high r p a =
         record {
           done = state .done ++ Accepted s b ∷ [];
           whole = onto (Accepted s b) f;
           has-answers = r ∙ rw (state .has-answers) (sym (said-next (state .done) s few low high itsAnswer b d));
           has-places = p ∙ rw (state .has-answers, state .has-places) (sym (said-next (state .done) s few low high itsPlace b d));
-          has-area = a ∙ rw (state .has-answers, state .has-area) (sym (area-next (state .done) s few low high b d));
+          has-area = a ∙ rw (state .has-answers, state .has-area) (sym (area-next (state .done) s few low high some b d));
           has-bad = omega (arith, state .has-bad, bads-append (state .done) (Accepted s b ∷ []));
           has-foreign = omega (arith, state .has-foreign, foreigns-append (state .done) (Accepted s b ∷ []));
         }

@@ -1,10 +1,10 @@
 -- What reading answers, as functions of what the walk meets and of the cells: what is known of each sector, its record and its slot
--- (01, "How a track is read").
+-- (01, "How a track is read"; 02, Req 04).
 use mathlib.Core.Bool.{cond}
 use mathlib.Core.List.{List, [], _∷_, _++_, map}
-use Prim.Native.Nat.{ℕ, _+_}
+use Prim.Native.Nat.{ℕ, _+_, _-_}
 use lib.Dec.{leb}
-use lib.ListN.{replicate}
+use lib.ListN.{getD, replicate}
 use Rattle.cells.specs.Cells.{dataBytes}
 use Rattle.layouts.specs.Layouts.{mostSectors, numbers}
 use Rattle.layouts.specs.declared.Track.{Track}
@@ -17,10 +17,11 @@ use Rattle.walk.specs.declared.Block.{Block}
 use Rattle.walk.specs.declared.Block.the-variants.{Missing, Beyond, Within}
 use Rattle.walk.specs.declared.Event.{Event}
 use Rattle.answers.specs.Answers.{noPlace}
+use Rattle.answers.specs.Letters.{letterF, answerAfter}
 use Rattle.answers.specs.declared.Fault.{Fault}
-use Rattle.answers.specs.declared.Fault.the-variants.{NoIdentifier, Doubled, NoBlock, PastEnd, OpenMark, WrongEdc}
+use Rattle.answers.specs.declared.Fault.the-variants.{NoIdentifier, Doubled, NoBlock, PastEnd, OpenMark}
 use Rattle.answers.specs.declared.Answer.{Answer}
-use Rattle.answers.specs.declared.Answer.the-variants.{Data, Control, Refused}
+use Rattle.answers.specs.declared.Answer.the-variants.{Data, Control, Defective, Refused}
 use Rattle.answers.specs.declared.Answered.{Answered}
 use Rattle.answers.specs.declared.Record.{Record}
 use Rattle.answers.specs.declared.Records.{Records}
@@ -43,11 +44,12 @@ slots f [] = []
 slots f (s ∷ ss) = f s ++ slots f ss
 
 module _ (size : ℕ) where
-  -- What an answer leaves in the slot, of size bytes, of a block with these bytes: the bytes, or zeros.
+  -- What an answer leaves in the slot, of size bytes, of a block with these bytes: the bytes, F followed by zeros, or zeros.
   abbrev pub slotOf : Answer → List ℕ → List ℕ
   slotOf (Refused fault) bytes = replicate size 0
   slotOf Data bytes = bytes
   slotOf Control bytes = bytes
+  slotOf Defective bytes = letterF ∷ replicate (size - 1) 0
 
   -- The sector with an answer and a place, of a block with these bytes.
   abbrev pub answering : Answer → (place : ℕ) → List ℕ → Sector
@@ -58,19 +60,21 @@ module _ (size : ℕ) where
   refused fault place = answering (Refused fault) place []
 
 module _ (t : Track) (c : ℕ → ℕ) (n : ℕ) where
-  -- What the block at m answers after a data or a control mark: its answer if the EDC is right.
-  unfoldable pub proved : Mark → Answer → ℕ → Answer
-  proved mark good m = cond (edcRight (t .layout .mode) c mark (m + markCells (t .layout .mode)) (t .layout .size + 2)) good (Refused WrongEdc)
+  -- The N data bytes of the block at m.
+  unfoldable pub blockBytes : ℕ → List ℕ
+  blockBytes m = dataBytes c (m + markCells (t .layout .mode)) (t .layout .size)
 
-  -- The answer of the block at m by itself. A data, control or open mark stands at m; an open mark's EDC is not looked at.
+  -- What it answers after a data or a control mark.
+  unfoldable pub blockAfter : Mark → ℕ → Answer
+  blockAfter mark m =
+      answerAfter (t .cylinder) mark (getD (blockBytes m) 0 0)
+      (edcRight (t .layout .mode) c mark (m + markCells (t .layout .mode)) (t .layout .size + 2))
+
+  -- Its answer by itself. A data, control or open mark stands at m; an open mark's EDC is not looked at.
   unfoldable pub blockAnswer : ℕ → Answer
   blockAnswer m =
       cond (stands (t .layout .mode) c n marks.Open m) (Refused OpenMark)
-      (cond (stands (t .layout .mode) c n marks.Control m) (proved marks.Control Control m) (proved marks.Data Data m))
-
-  -- Its N data bytes.
-  unfoldable pub blockBytes : ℕ → List ℕ
-  blockBytes m = dataBytes c (m + markCells (t .layout .mode)) (t .layout .size)
+      (cond (stands (t .layout .mode) c n marks.Control m) (blockAfter marks.Control m) (blockAfter marks.Data m))
 
   -- What one accepted identifier makes of its sector. The place is the cell at which the block's mark begins (02, Req 01).
   unfoldable pub identifierRecord : Block → Sector

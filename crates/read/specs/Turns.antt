@@ -4,7 +4,7 @@ use mathlib.Core.Bool.{Bool, true, false, cond}
 use mathlib.Core.List.{List, _++_}
 use mathlib.Core.Path.{_≡_}
 use Prim.Native.Nat.{ℕ, _+_, _-_, _*_, _≤_}
-use lib.ListN.{length, replicate}
+use lib.ListN.{length, getD}
 use lib.Seq.{sets}
 use Rattle.cells.specs.Cells.{cell, dataBytes}
 use Rattle.cells.specs.declared.Mode.{Mode}
@@ -17,18 +17,19 @@ use Rattle.marks.specs.Outcomes.{Housed}
 use Rattle.marks.specs.declared.Mark.{Mark}
 use Rattle.walk.specs.Walk.{edcRight}
 use Rattle.walk.specs.Turns.{Placed}
-use Rattle.read.specs.Records.{Sector, refused, identifierRecord}
+use Rattle.read.specs.Records.{Sector, slotOf, refused, identifierRecord}
 use Rattle.answers.specs.Answers.{noPlace}
-use Rattle.answers.specs.declared.Fault.the-variants.{NoIdentifier, Doubled, NoBlock, PastEnd, OpenMark, WrongEdc}
+use Rattle.answers.specs.Letters.{answerAfter}
+use Rattle.answers.specs.declared.Fault.the-variants.{NoIdentifier, Doubled, NoBlock, PastEnd, OpenMark, WrongEdc, ForbiddenLetter}
 use Rattle.answers.specs.declared.Answer.{Answer}
-use Rattle.answers.specs.declared.Answer.the-variants.{Data, Control, Refused}
+use Rattle.answers.specs.declared.Answer.the-variants.{Data, Control, Defective, Refused}
 use Rattle.answers.specs.declared.Record.{Record}
 use Rattle.walk.specs.declared.Block.{Block}
 use Rattle.walk.specs.declared.Block.the-variants.{Missing, Beyond, Within}
 
--- The layout's numbers are small enough for sums of cells. Those of every layout are.
+-- The layout's numbers are small enough for sums of cells, and a sector has a first byte. Those of every layout are so.
 abbrev pub Modest : Layout → Type 0
-Modest l = (l .size ≤ 65536) × (l .sectors ≤ mostSectors)
+Modest l = (l .size ≤ 65536) × (l .sectors ≤ mostSectors) × (1 ≤ l .size)
 
 -- What a function is lent that reads a block: an image of the house bound, a layout of small numbers, a block so placed, and a slot for it.
 abbrev pub Lent : Track → (image : List ℕ) → Block → (slot : List ℕ) → Type 0
@@ -62,11 +63,11 @@ module _ (mode : Mode) (mark : Mark) where
   abbrev pub Decodes : (ℕ → ℕ) → (p k register : ℕ) → (after : List ℕ) → Type 0
   Decodes c p k register after = (after ≡ dataBytes c p k) × (register ≡ edcOf (covered mode mark ++ dataBytes c p (k + 2)))
 
-  -- If the EDC of the k bytes at p is right, this is the answer and the slot holds them; else the EDC is wrong, and it holds zeros.
-  abbrev pub Checks : Answer → (ℕ → ℕ) → (p k : ℕ) → Answer → (after : List ℕ) → Type 0
-  Checks good c p k answer after =
-      (answer ≡ cond (edcRight mode c mark p (k + 2)) good (Refused WrongEdc))
-      × (after ≡ cond (edcRight mode c mark p (k + 2)) (dataBytes c p k) (replicate k 0))
+-- Of the k bytes at p, after this mark and on this cylinder: what the block answers, and what the answer leaves of them in the slot.
+abbrev pub Checks : (cylinder : ℕ) → Mode → Mark → (ℕ → ℕ) → (p k : ℕ) → Answer → (after : List ℕ) → Type 0
+Checks cylinder mode mark c p k answer after =
+    (answer ≡ answerAfter cylinder mark (getD (dataBytes c p k) 0 0) (edcRight mode c mark p (k + 2)))
+    × (after ≡ slotOf k answer (dataBytes c p k))
 
 -- The place that a block gives its sector.
 abbrev pub placeOf : Block → ℕ
@@ -78,12 +79,14 @@ placeOf (Within m) = m
 abbrev pub unmet : Answer → Bool
 unmet Data = false
 unmet Control = false
+unmet Defective = false
 unmet (Refused NoIdentifier) = true
 unmet (Refused Doubled) = false
 unmet (Refused NoBlock) = false
 unmet (Refused PastEnd) = false
 unmet (Refused OpenMark) = false
 unmet (Refused WrongEdc) = false
+unmet (Refused ForbiddenLetter) = false
 
 -- The first identifier's block decides; with a second one the sector is doubled. What counts of the record before is the answer.
 unfoldable pub next : (t : Track) → (c : ℕ → ℕ) → (n : ℕ) → (before : Answer) → Block → Sector

@@ -2,6 +2,7 @@
 // slot, and gives the answer, or the whole record, that goes with what it leaves there.
 use answers::Answer;
 use answers::Fault;
+use answers::LETTER_F;
 use answers::NO_PLACE;
 use answers::Record;
 use cells::Mode;
@@ -13,9 +14,9 @@ ghost use Prim.Native.Nat.{_+_, _*_, _≤_};
 ghost use lib.ListN.{length, replicate};
 ghost use Rattle.cells.specs.Cells.{cell};
 ghost use Rattle.walk.specs.declared.Block.the-variants.{Within};
-ghost use Rattle.read.specs.Records.{identifierRecord};
+ghost use Rattle.read.specs.Records.{slotOf, identifierRecord};
 ghost use Rattle.read.specs.Turns.{Lent, Leaves, Gives, Decodes, Checks, placeOf, unmet, next};
-ghost use Rattle.answers.specs.declared.Answer.the-variants.{Refused};
+ghost use Rattle.answers.specs.declared.Answer.the-variants.{Refused, Defective};
 
 // What decoding a block says besides its bytes: the register once the mark, the bytes and the two behind them have entered it.
 struct Decoded {
@@ -44,23 +45,44 @@ fn refused(fault: Fault, slot: &mut [u8]) -> Answer
     Answer::Refused(fault)
 }
 
-// The block whose bytes begin at `place`, after a data or a control mark: `good` if its EDC is right. Else its bytes are taken back.
+// A defective area: F followed by zeros, whatever else the block holds.
+fn defective(slot: &mut [u8]) -> Answer
+    requires { ⌜ 1 ≤ length (now slot) ⌝ }
+    ensures { λ r. ⌜ (r ≡ Defective) × (now (slot .exit) ≡ slotOf (length (now (slot .entry))) Defective (now (slot .entry))) ⌝ }
+{
+    cells::clear(slot);
+    slot[0] = LETTER_F;
+    Answer::Defective
+}
+
+// The answer, once the slot that holds the block's bytes holds what the answer leaves of them.
+fn settled(answer: Answer, slot: &mut [u8]) -> Answer
+    requires { ⌜ 1 ≤ length (now slot) ⌝ }
+    ensures { λ r. ⌜ (r ≡ answer) × (now (slot .exit) ≡ slotOf (length (now (slot .entry))) answer (now (slot .entry))) ⌝ }
+{
+    match answer {
+        Answer::Refused(fault) => refused(fault, slot),
+        Answer::Data => Answer::Data,
+        Answer::Control => Answer::Control,
+        Answer::Defective => defective(slot),
+    }
+}
+
+// The block whose bytes begin at `place`, after a data or a control mark, on a track of this cylinder.
 fn checked(
+    cylinder: u32,
     mode: Mode,
     mark: Mark,
-    good: Answer,
     image: &[u8],
     place: usize,
     slot: &mut [u8],
 ) -> Answer
-    requires { ⌜ place + 16 * length (now slot) ≤ 4294967296 ⌝ }
-    ensures { λ r. ⌜ Checks mode mark good (cell (now (image .entry))) place (length (now (slot .entry))) r (now (slot .exit)) ⌝ }
+    requires { ⌜ (place + 16 * length (now slot) ≤ 4294967296) × (1 ≤ length (now slot)) ⌝ }
+    ensures { λ r. ⌜ Checks cylinder mode mark (cell (now (image .entry))) place (length (now (slot .entry))) r (now (slot .exit)) ⌝ }
 {
     let decoded = decode(mode, mark, image, place, slot);
-    if decoded.register != 0 {
-        return refused(Fault::WrongEdc, slot);
-    }
-    good
+    let answer = answers::answer_after(cylinder, mark, slot[0], decoded.register == 0);
+    settled(answer, slot)
 }
 
 // What the block answers whose mark stands at `place`, by itself.
@@ -73,10 +95,10 @@ fn block_answer(track: Track, image: &[u8], place: usize, slot: &mut [u8]) -> An
     let bytes = place + 16 * marks::mark_bytes(mode);
     // the data mark first, since most blocks have it; a claimed block without data or control mark has an open one
     if marks::stands(mode, Mark::Data, image, place) {
-        return checked(mode, Mark::Data, Answer::Data, image, bytes, slot);
+        return checked(track.cylinder, mode, Mark::Data, image, bytes, slot);
     }
     if marks::stands(mode, Mark::Control, image, place) {
-        return checked(mode, Mark::Control, Answer::Control, image, bytes, slot);
+        return checked(track.cylinder, mode, Mark::Control, image, bytes, slot);
     }
     refused(Fault::OpenMark, slot)
 }
@@ -117,9 +139,11 @@ fn is_unmet(answer: Answer) -> bool
             Fault::PastEnd => false,
             Fault::OpenMark => false,
             Fault::WrongEdc => false,
+            Fault::ForbiddenLetter => false,
         },
         Answer::Data => false,
         Answer::Control => false,
+        Answer::Defective => false,
     }
 }
 

@@ -60,6 +60,9 @@ pub fn write(tally: &mut Tally, rng: &mut Rng, contents: &Contents, area: usize)
     expected.holds(contents);
     tally.input();
     tally.met(Row::FileWrite, expected.number);
+    if expected.number == 0 {
+        contents.answers.iter().for_each(|&answer| tally.met(Row::FileAnswer, answer));
+    }
     expected.number
 }
 

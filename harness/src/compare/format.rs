@@ -5,7 +5,7 @@ use crate::rng::Rng;
 use crate::station;
 use crate::tally::met::Row;
 use crate::tally::Tally;
-use crate::tracks::Track;
+use crate::tracks::{letters, Track};
 use std::fmt;
 
 /// All that is handed to a formatter.
@@ -20,10 +20,8 @@ pub struct Call {
 impl Call {
     /// Random contents that the track may hold, of the layout's lengths, and an image full of anything.
     pub fn new(rng: &mut Rng, track: Track) -> Call {
-        let layout = track.layout();
-        let marks = (0..layout.sectors).map(|_| [0xFB, 0xF8][rng.below(2)]).collect();
-        let (data, image) = (rng.bytes(layout.area_bytes()), rng.bytes(layout.image_bytes()));
-        Call { track, data, marks, image }.with_letter_d()
+        let (data, marks) = letters::contents(rng, track);
+        Call { track, data, marks, image: rng.bytes(track.layout().image_bytes()) }
     }
 
     /// On cylinder 0 a control mark may stand only before the letter D.

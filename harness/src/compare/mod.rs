@@ -5,6 +5,7 @@ pub mod pick;
 pub mod read;
 pub mod rewrite;
 
+use crate::reference::marks::{DATA, LETTER_D, LETTER_F};
 use crate::rng::Rng;
 use std::ops::Range;
 
@@ -22,4 +23,25 @@ pub fn difference(found: &[u8], expected: &[u8]) -> String {
         Some((at, (found, expected))) => format!("byte {at} is {found:02X}, not {expected:02X}"),
         None => format!("{} bytes, not {}", found.len(), expected.len()),
     }
+}
+
+/// What a sector reads as that was written with a mark and bytes, by the formatter or by a rewrite: its answer, and what its
+/// slot holds (01, demands 2 and 3; 02, request 04).
+pub fn read_back(cylinder: u32, mark: u32, bytes: &[u8]) -> (u32, Vec<u8>) {
+    let mut slot = bytes.to_vec();
+    let answer = match (cylinder, bytes[0]) {
+        _ if mark == DATA.into() => 1,
+        (0, LETTER_D) => 2,
+        // the formatter and a request refuse it, but a step does not know the cylinder
+        (0, _) => {
+            slot.fill(0);
+            27
+        }
+        (_, LETTER_F) => {
+            slot[1..].fill(0);
+            3
+        }
+        _ => 2,
+    };
+    (answer, slot)
 }

@@ -1,7 +1,8 @@
 //! Calls of a reader, and how the two sides are held against each other on one of them.
+use super::read_back;
 use crate::reference::dump::Reader;
 use crate::reference::read::read;
-use crate::reference::records::at;
+use crate::reference::records::{at, is_answer};
 use crate::rng::Rng;
 use crate::station::{self, Reading, Record, MOST_SECTORS, NO_PLACE};
 use crate::tally::met::Row;
@@ -83,19 +84,21 @@ impl Outcome {
 
     /// The sectors that can be rewritten, if their marks stand on byte boundaries.
     pub fn whole(&self) -> Vec<usize> {
+        let is_whole = |answer| is_answer(answer) && !(21..=24).contains(&answer);
         let records = (1..).zip(self.reading.records);
-        records.filter(|(_, record)| [1, 2, 25, 26].contains(&record.answer)).map(|(sector, _)| sector).collect()
+        records.filter(|(_, record)| is_whole(record.answer)).map(|(sector, _)| sector).collect()
     }
 
     /// That of a track with these contents, formatted.
     pub fn of_contents(track: Track, data: &[u8], marks: &[u8]) -> Outcome {
-        let mut reading = Reading::default();
-        for (sector, &mark) in (1..).zip(marks) {
-            let (_, place) = track.places(sector);
-            reading.records[sector - 1] = at(if mark == 0xFB { 1 } else { 2 }, 8 * place);
+        let (mut reading, mut area) = (Reading::default(), Vec::new());
+        for (sector, (bytes, &mark)) in (1..).zip(data.chunks(track.layout().size).zip(marks)) {
+            let ((_, place), (answer, slot)) = (track.places(sector), read_back(track.cylinder, mark.into(), bytes));
+            reading.records[sector - 1] = at(answer, 8 * place);
+            area.extend(slot);
         }
         assert_eq!(marks.len(), track.layout().sectors);
-        Outcome { number: 0, reading, area: data.to_vec() }
+        Outcome { number: 0, reading, area }
     }
 
     /// That of the same track where it begins some cells later.

@@ -1,13 +1,13 @@
 //! Rewrites, and how the two sides are held against each other on one of them.
 use super::read::Outcome;
-use super::{among_others, difference};
+use super::{among_others, difference, read_back};
 use crate::reference::rewrite::{self, Plan, Request};
 use crate::reference::stores::stores;
 use crate::rng::Rng;
 use crate::station::{self, Record};
 use crate::tally::met::Row;
 use crate::tally::Tally;
-use crate::tracks::Track;
+use crate::tracks::{letters, Track};
 use std::fmt;
 use std::ops::Range;
 
@@ -24,13 +24,8 @@ pub struct Call {
 impl Call {
     /// Either mark and random contents, as the track may hold them.
     pub fn new(rng: &mut Rng, track: Track, sector: usize, image: &[u8]) -> Call {
-        let mark = [0xFB, 0xF8][rng.below(2)];
-        let mut contents = rng.bytes(track.layout().size);
-        // on cylinder 0 a control mark may stand only before the letter D
-        if track.cylinder == 0 && mark == 0xF8 {
-            contents[0] = 0x44;
-        }
-        Call { track, sector: sector as u32, mark, contents, image: image.to_vec() }
+        let (mark, contents) = letters::record(rng, track);
+        Call { track, sector: sector as u32, mark: mark.into(), contents, image: image.to_vec() }
     }
 
     /// The same sector of the same image with other contents, perhaps after the other mark.
@@ -121,8 +116,9 @@ impl Call {
         let (index, size) = (self.sector as usize - 1, self.contents.len());
         let (Record { place, .. }, slot) = (before.reading.records[index], &mut after.area[index * size..][..size]);
         if made == all {
-            after.reading.records[index] = Record { answer: if self.mark == 0xFB { 1 } else { 2 }, place };
-            slot.copy_from_slice(&self.contents);
+            let (answer, bytes) = read_back(self.track.cylinder, self.mark, &self.contents);
+            after.reading.records[index] = Record { answer, place };
+            slot.copy_from_slice(&bytes);
         } else if made > 0 {
             after.reading.records[index] = Record { answer: 25, place };
             slot.fill(0);

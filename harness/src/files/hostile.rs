@@ -52,7 +52,7 @@ fn byte(rng: &mut Rng, old: u8) -> u8 {
     match rng.below(4) {
         0 => old.wrapping_add(1),
         1 => old.wrapping_sub(1),
-        2 => [0, 1, 2, 3, 4, 20, 21, 26, 27, 74, 75, 80, 81, 150, 151][rng.below(15)],
+        2 => [0, 1, 2, 3, 4, 20, 21, 27, 28, 74, 75, 80, 81, 150, 151][rng.below(15)],
         _ => rng.byte(),
     }
 }

@@ -166,10 +166,11 @@ pub fn small(rng: &mut Rng) -> Contents {
         0 => Contents::new(rng, &tracks),
         // at most two sectors have bytes
         _ => {
-            let mut answers: Vec<u8> = (0..sectors(&tracks)).map(|_| 21 + rng.below(6) as u8).collect();
+            let (with, without): (Vec<u8>, Vec<u8>) = ANSWERS.into_iter().partition(|&answer| has_bytes(answer.into()));
+            let mut answers: Vec<u8> = (0..sectors(&tracks)).map(|_| without[rng.below(without.len())]).collect();
             for _ in 0..rng.below(3).min(answers.len()) {
                 let at = rng.below(answers.len());
-                answers[at] = 1 + rng.below(2) as u8;
+                answers[at] = with[rng.below(with.len())];
             }
             let length = rng.below(10);
             Contents { label: rng.bytes(length), ..Contents::answered(rng, &tracks, answers) }

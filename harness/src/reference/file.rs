@@ -1,4 +1,5 @@
-//! The file for a read cartridge (02, request 03): label, tracks, answers and data, each after its count of four bytes.
+//! The file for a read cartridge (02, requests 03 and 04): label, tracks, answers and data, each after its count of four
+//! bytes.
 use super::layouts::{of_track, LAYOUTS};
 use super::records::{has_bytes, is_answer};
 use crate::station::Sections;

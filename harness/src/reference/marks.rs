@@ -7,6 +7,9 @@ pub const CONTROL: u8 = 0xF8;
 /// The letter D: on cylinder 0 the only first byte after a control mark (004, 7.4.2.4.3).
 pub const LETTER_D: u8 = 0x44;
 
+/// The letter F: that of a control record whose sector contains a defective area (004, 7.4.2.4.3; 02, request 04).
+pub const LETTER_F: u8 = 0x46;
+
 /// A mark's image bytes, as 01's table has them, and the bytes that they stand for, which the EDC covers.
 pub struct Mark<const BYTES: usize> {
     pub image: [u8; BYTES],

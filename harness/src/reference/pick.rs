@@ -1,4 +1,4 @@
-//! The pick from two passes (01, "Two passes", "Refused calls"; 02, request 01).
+//! The pick from two passes (01, "Two passes", "Refused calls"; 02, requests 01 and 04).
 use super::layouts::LAYOUTS;
 use super::records::{has_bytes, is_answer};
 use crate::station::{Pass, Record};
@@ -6,7 +6,7 @@ use crate::station::{Pass, Record};
 /// What is handed back for one sector.
 #[derive(Clone, Copy, Debug, PartialEq, Eq)]
 pub enum Pick<'a> {
-    /// The first pass answered 1 or 2: its record and its slot.
+    /// The first pass answered 1, 2 or 3: its record and its slot.
     First(Record, &'a [u8]),
     /// Only the second did.
     Second(Record, &'a [u8]),

@@ -108,9 +108,18 @@ fn walk<const MARK: usize>(
         }
         let block = bytes(image, place + 8 * MARK, layout.size + 2);
         let is_right = edc(&[kinds[kind].bytes, &block].concat()) == 0;
+        let (is_control, first, is_cylinder_0) = (kind == 2, block[0], own[0] == 0);
         met.accepted.push(match kind {
             3 => Accepted::refused(sector, at(25, place)),
+            // request 04: "answers 3, defective area, with either EDC, and its slot holds F followed by zeros"
+            _ if is_control && first == 0x46 && !is_cylinder_0 => {
+                let mut bytes = vec![0; layout.size];
+                bytes[0] = 0x46;
+                Accepted { sector, record: at(3, place), bytes }
+            }
             _ if !is_right => Accepted::refused(sector, at(26, place)),
+            // "27 on cylinder 0, mark F8 and EDC right, but first byte not D"
+            _ if is_control && first != 0x44 && is_cylinder_0 => Accepted::refused(sector, at(27, place)),
             _ => Accepted { sector, record: at(kind as u32, place), bytes: block[..layout.size].to_vec() },
         });
     }

@@ -1,5 +1,5 @@
-//! The reading of a file word for word after 02, request 03: a cursor that takes one byte after the other. Slow, to check
-//! the fast reading by, and the writing too.
+//! The reading of a file word for word after 02, requests 03 and 04: a cursor that takes one byte after the other. Slow,
+//! to check the fast reading by, and the writing too.
 use super::layouts::{of_track, Layout};
 use super::records::{has_bytes, is_answer};
 use crate::station::Sections;
@@ -76,7 +76,7 @@ impl Cursor<'_> {
         let numbers = self.bytes(answers.count)?;
         is(numbers.iter().all(|&number| is_answer(number.into())), 33)?;
 
-        // "data of those answered 1 or 2, in that order, counted in bytes"
+        // "data of those answered 1 or 2, in that order, counted in bytes"; request 04: "3 joins 1 and 2 in the file"
         let data = self.count()?;
         let of_sectors = layouts.iter().flat_map(|layout| (0..layout.sectors).map(move |_| layout.size as u64));
         let answered = of_sectors.zip(numbers).filter(|&(_, number)| has_bytes(number.into()));

@@ -1,9 +1,9 @@
-//! The reader (01, "How a track is read", "Refused calls"): one walk over the image, and each block goes straight into
-//! its slot.
+//! The reader (01, "How a track is read", "Refused calls"; 02, request 04): one walk over the image, and each block goes
+//! straight into its slot.
 use super::coding::Mode;
 use super::edc::{continued, edc};
-use super::marks;
-use super::records::{at, nowhere};
+use super::marks::{self, LETTER_D, LETTER_F};
+use super::records::{at, has_bytes, nowhere};
 use super::walk::{decode, stored, walk, Found, Kind, Meets, Track, BYTE};
 use crate::station::{Reading, Record};
 
@@ -28,9 +28,10 @@ pub fn read(layout: u32, cylinder: u32, side: u32, image: &[u8], area: &mut [u8]
         Mode::Mfm => (marks::MFM.data.bytes, marks::MFM.control.bytes),
     };
     let (data, control) = (edc(data), edc(control));
-    walk(track, &mut Filling { image, size: layout.size, data, control, area, records, counts });
+    let cylinder = track.cylinder;
+    walk(track, &mut Filling { image, cylinder, size: layout.size, data, control, area, records, counts });
     let slots = area.chunks_exact_mut(layout.size).zip(records);
-    slots.filter(|(_, record)| record.answer > 2).for_each(|(slot, _)| slot.fill(0));
+    slots.filter(|(_, record)| !has_bytes(record.answer)).for_each(|(slot, _)| slot.fill(0));
     0
 }
 
@@ -46,6 +47,7 @@ fn accepted<'a>(layout: u32, cylinder: u32, side: u32, image: &'a [u8], area: &[
 /// What the walk fills.
 struct Filling<'a> {
     image: &'a [u8],
+    cylinder: u8,
     size: usize,
     /// What the marks leave in the register, once for all blocks.
     data: u16,
@@ -79,14 +81,20 @@ impl Meets for Filling<'_> {
 impl Filling<'_> {
     /// The answer for a whole block after a data or control mark, as if no other had its number.
     fn block(&mut self, sector: usize, from: usize, kind: Kind) -> u32 {
-        let (answer, register) = if kind == Kind::Data { (1, self.data) } else { (2, self.control) };
+        let register = if kind == Kind::Data { self.data } else { self.control };
         let slot = &mut self.area[sector * self.size..][..self.size];
         decode(self.image, from, slot);
         let is_right = continued(register, slot) == stored(self.image, from + BYTE * self.size);
-        if is_right {
-            answer
-        } else {
-            26
+        match (kind, self.cylinder, slot[0]) {
+            // the sector contains a defective area, and its EDC may be right or wrong: nothing but the letter is handed on
+            (Kind::Control, 1.., LETTER_F) => {
+                slot[1..].fill(0);
+                3
+            }
+            _ if !is_right => 26,
+            (Kind::Control, 0, letter) if letter != LETTER_D => 27,
+            (Kind::Control, ..) => 2,
+            _ => 1,
         }
     }
 }

@@ -1,5 +1,5 @@
-//! A sector's record (01, "How a track is read"; 02, request 01): its answer, and the cell at which its data, control or
-//! open mark begins.
+//! A sector's record (01, "How a track is read"; 02, requests 01 and 04): its answer, and the cell at which its data,
+//! control or open mark begins.
 use crate::station::{Record, NO_PLACE};
 
 /// That of a sector whose mark begins at a cell.
@@ -15,11 +15,11 @@ pub const fn nowhere(answer: u32) -> Record {
 /// Whether the number is an answer's.
 #[inline]
 pub const fn is_answer(number: u32) -> bool {
-    matches!(number, 1 | 2 | 21..=26)
+    matches!(number, 1..=3 | 21..=27)
 }
 
-/// Whether there are bytes with an answer: those of a data or a control record.
+/// Whether there are bytes with an answer: those of a data or a control record, or the F and zeros of a defective area.
 #[inline]
 pub const fn has_bytes(answer: u32) -> bool {
-    matches!(answer, 1 | 2)
+    matches!(answer, 1..=3)
 }

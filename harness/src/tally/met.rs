@@ -1,5 +1,5 @@
 //! The outcomes that comparisons met, and those that a run has to meet (01, "How a track is read", "Refused calls"; 02,
-//! request 03).
+//! requests 03 and 04).
 use super::grouped;
 use std::collections::BTreeSet;
 use std::fmt::{self, Display};
@@ -24,25 +24,28 @@ pub enum Row {
     Step,
     FileWrite,
     FileRead,
+    /// Sectors in files that were accepted.
+    FileAnswer,
 }
 
 /// Every answer of a reader.
-pub const ANSWERS: [u8; 8] = [1, 2, 21, 22, 23, 24, 25, 26];
+pub const ANSWERS: [u8; 10] = [1, 2, 3, 21, 22, 23, 24, 25, 26, 27];
 
 /// Every row with its name, and the outcomes that it has to meet. No call gives 8: every layout adds up to its image.
-const ROWS: [(Row, &str, &[u8]); 12] = [
+const ROWS: [(Row, &str, &[u8]); 13] = [
     (Row::Format, "format", &[0, 1, 2, 3, 4, 5, 6, 7]),
     (Row::Read, "read", &[0, 1, 2, 3, 4, 5]),
     (Row::Answer, "answer", &ANSWERS),
     (Row::Identifier, "identifier", &[0, 1]),
     (Row::Pick, "pick", &[4, 5, 9]),
-    (Row::First, "first pass", &[1, 2]),
-    (Row::Second, "second pass", &[1, 2]),
-    (Row::Neither, "neither pass", &[21, 22, 23, 24, 25, 26]),
+    (Row::First, "first pass", &[1, 2, 3]),
+    (Row::Second, "second pass", &[1, 2, 3]),
+    (Row::Neither, "neither pass", &[21, 22, 23, 24, 25, 26, 27]),
     (Row::Request, "request", &[0, 1, 2, 3, 4, 5, 6, 7, 9, 10, 11]),
     (Row::Step, "step", &[0, 1, 4, 5, 6, 12, 13]),
     (Row::FileWrite, "file write", &[0, 32, 33, 34, 36]),
     (Row::FileRead, "file read", &[0, 31, 32, 33, 34, 35]),
+    (Row::FileAnswer, "answer in a file", &ANSWERS),
 ];
 
 /// The rows whose numbers other than 0 are refusals.

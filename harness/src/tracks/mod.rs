@@ -1,5 +1,6 @@
 //! Tracks to be read, right ones and wrong ones: for the tests, the benchmark and the kept vectors.
 pub mod damage;
+pub mod letters;
 pub mod random;
 pub mod sketch;
 pub mod traps;
@@ -39,9 +40,12 @@ pub fn all() -> Vec<Track> {
     tracks
 }
 
-/// Any of them.
+/// Any of them: one of cylinder 0, which has rules of its own, at least each fourth time.
 pub fn any(rng: &mut Rng) -> Track {
-    let tracks = all();
+    let mut tracks = all();
+    if rng.below(4) == 0 {
+        tracks.truncate(2);
+    }
     tracks[rng.below(tracks.len())]
 }
 
@@ -74,8 +78,16 @@ impl Track {
         image
     }
 
-    /// A formatted track with random contents, and these: data bytes and marks.
+    /// A formatted track with random contents, and these: data bytes and marks. Many sectors begin with a letter that the
+    /// papers name.
     pub fn random(self, rng: &mut Rng) -> (Vec<u8>, Vec<u8>, Vec<u8>) {
+        let (data, marks) = letters::contents(rng, self);
+        (self.formatted(&data, &marks), data, marks)
+    }
+
+    /// The same without such letters, but where cylinder 0 wants them. The benchmark and the vectors that have been kept
+    /// from the beginning are made of these, and stay as they are.
+    pub fn plain(self, rng: &mut Rng) -> (Vec<u8>, Vec<u8>, Vec<u8>) {
         let layout = self.layout();
         let mut data = rng.bytes(layout.area_bytes());
         let marks: Vec<u8> = (0..layout.sectors).map(|_| [0xFB, 0xF8][rng.below(2)]).collect();

@@ -1,14 +1,27 @@
 //! Tracks of random fields: all that the walk can meet, in any order and at any cell.
+use super::letters::letter;
 use super::sketch::*;
 use super::Track;
 use crate::reference::coding::Mode;
 use crate::rng::Rng;
 
-/// A track of a few random fields, perhaps cut in one of them.
+/// The first byte of a block, by the one that `contents` has there.
+type First = fn(&mut Rng, u8) -> u8;
+
+/// A track of a few random fields, perhaps cut in one of them. Many blocks begin with a letter that the papers name.
 pub fn fields(rng: &mut Rng, track: Track) -> Vec<u8> {
+    drawn(rng, track, letter)
+}
+
+/// The same without such letters: the vectors that have been kept from the beginning are made so, and stay as they are.
+pub fn plain_fields(rng: &mut Rng, track: Track) -> Vec<u8> {
+    drawn(rng, track, |_, own| own)
+}
+
+fn drawn(rng: &mut Rng, track: Track, first: First) -> Vec<u8> {
     let mut sketch = Sketch::new(track).blank(rng.below(16));
     for _ in 0..2 + rng.below(10) {
-        sketch = field(rng, sketch);
+        sketch = field(rng, sketch, first);
     }
     // the image has a byte at least
     let most = sketch.cells.len().saturating_sub(8);
@@ -16,17 +29,22 @@ pub fn fields(rng: &mut Rng, track: Track) -> Vec<u8> {
     sketch.without(cut.min(most)).blank(8).image()
 }
 
-fn field(rng: &mut Rng, sketch: Sketch) -> Sketch {
+fn field(rng: &mut Rng, sketch: Sketch, first: First) -> Sketch {
     // few numbers, so that some come twice
     let sector = 1 + rng.below(5) as u8;
     let window = if sketch.track.mode() == Mode::Fm { 544 } else { 1_088 };
+    let mut bytes = contents(sketch.track, sector);
     match rng.below(17) {
         0 | 1 => sketch.identifier(sector),
-        2 | 3 => sketch.identifier(sector).gap(rng.below(60)).block([Data, Control, Open][rng.below(3)], sector),
+        2 | 3 => {
+            let (sketch, kind) = (sketch.identifier(sector).gap(rng.below(60)), [Data, Control, Open][rng.below(3)]);
+            bytes[0] = first(rng, bytes[0]);
+            sketch.zeros().field(kind, &bytes)
+        }
         4 => {
             // about the window's end
             let sketch = sketch.identifier(sector).blank(window - 4 + rng.below(9)).mark(kind(rng));
-            let bytes = contents(sketch.track, sector);
+            bytes[0] = first(rng, bytes[0]);
             sketch.bytes(&bytes).edc()
         }
         5 => foreign(rng, sketch, sector),
@@ -34,10 +52,15 @@ fn field(rng: &mut Rng, sketch: Sketch) -> Sketch {
             let address = sketch.track.address(sector);
             sketch.zeros().mark(Identifier).bytes(&address).wrong_edc()
         }
-        7 | 8 => sketch.block(kind(rng), sector),
+        7 | 8 => {
+            let sketch = sketch.zeros().mark(kind(rng));
+            bytes[0] = first(rng, bytes[0]);
+            sketch.bytes(&bytes).edc()
+        }
         9 | 10 => {
-            let bytes = contents(sketch.track, sector);
-            sketch.identifier(sector).zeros().mark(kind(rng)).bytes(&bytes).wrong_edc()
+            let sketch = sketch.identifier(sector).zeros().mark(kind(rng));
+            bytes[0] = first(rng, bytes[0]);
+            sketch.bytes(&bytes).wrong_edc()
         }
         11 => sketch.mark(kind(rng)),
         12 => sketch.gap(rng.below(80)),

@@ -1,5 +1,6 @@
-//! Tracks as a worn cartridge or a careless capture gives them.
+//! Tracks as a worn cartridge or a careless capture gives them. Some of their sectors other stations wrote.
 use super::damage::{self, damage, false_beginnings, image_of, turn};
+use super::letters::mixed;
 use super::sketch::cells_of;
 use super::Track;
 use crate::rng::Rng;
@@ -9,7 +10,7 @@ pub const LONGEST: usize = 24_576;
 
 /// A formatted track with some cells turned over.
 pub fn turned(rng: &mut Rng, track: Track) -> Vec<u8> {
-    let (mut image, ..) = track.random(rng);
+    let mut image = mixed(rng, track);
     for _ in 0..1 + rng.below(40) {
         let cell = rng.below(8 * image.len());
         turn(&mut image, cell);
@@ -19,7 +20,7 @@ pub fn turned(rng: &mut Rng, track: Track) -> Vec<u8> {
 
 /// A formatted track with cells turned over, lost, put in and doubled.
 pub fn spoilt(rng: &mut Rng, track: Track) -> Vec<u8> {
-    let (image, ..) = track.random(rng);
+    let image = mixed(rng, track);
     wear(rng, &image)
 }
 
@@ -33,7 +34,7 @@ pub fn wear(rng: &mut Rng, image: &[u8]) -> Vec<u8> {
 
 /// A piece of a formatted track.
 pub fn cut(rng: &mut Rng, track: Track) -> Vec<u8> {
-    let (image, ..) = track.random(rng);
+    let image = mixed(rng, track);
     let from = rng.below(2) * rng.below(image.len());
     let length = 1 + rng.below(image.len() - from);
     image[from..from + length].to_vec()
@@ -41,14 +42,14 @@ pub fn cut(rng: &mut Rng, track: Track) -> Vec<u8> {
 
 /// As much of two turns as may be read: all of layout 0, of the others the first sectors twice.
 pub fn two_turns(rng: &mut Rng, track: Track) -> Vec<u8> {
-    let mut image = track.random(rng).0.repeat(2);
+    let mut image = mixed(rng, track).repeat(2);
     image.truncate(LONGEST);
     image
 }
 
 /// A formatted track some cells later.
 pub fn shifted(rng: &mut Rng, track: Track) -> Vec<u8> {
-    let ((image, ..), by) = (track.random(rng), rng.below(64));
+    let (image, by) = (mixed(rng, track), rng.below(64));
     damage::shifted(rng, &image, by)
 }
 

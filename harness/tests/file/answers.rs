@@ -1,11 +1,10 @@
 //! What stands in the answers, and how many there are; then how many data bytes.
 use harness::compare::file::{read, write};
 use harness::files::{tracks, Contents};
-use harness::reference::records::has_bytes;
 use harness::rng::Rng;
-use harness::tally::met::{Row, ANSWERS};
+use harness::tally::met::Row;
 use harness::tally::Tally;
-use harness::tracks::EACH;
+use harness::tracks::{Track, EACH, FM, MFM};
 
 /// Written and read, with an area that is long enough: the same number in both ways.
 fn is_answered(tally: &mut Tally, rng: &mut Rng, contents: &Contents, number: u8) {
@@ -27,10 +26,10 @@ fn every_number_as_an_answer() {
                 answers[at] = number;
                 let without = Contents { data: vec![], ..Contents::answered(&mut rng, &[track], answers) };
                 let with = Contents { data: rng.bytes(layout.size), ..without.clone() };
-                let expected = match (ANSWERS.contains(&number), has_bytes(number.into())) {
-                    (true, true) => [34, 0],
-                    (true, false) => [0, 34],
-                    (false, _) => [33, 33],
+                let expected = match number {
+                    1..=3 => [34, 0],
+                    21..=27 => [0, 34],
+                    _ => [33, 33],
                 };
                 is_answered(&mut tally, &mut rng, &without, expected[0]);
                 is_answered(&mut tally, &mut rng, &with, expected[1]);
@@ -110,12 +109,35 @@ fn data_bytes_by_the_own_layout() {
         let mut contents = Contents::all(&mut rng, &tracks, 25);
         let own = rng.below(count);
         let before: usize = tracks[..own].iter().map(|track| track.layout().sectors).sum();
-        contents.answers[before + rng.below(tracks[own].layout().sectors)] = 1 + rng.below(2) as u8;
+        contents.answers[before + rng.below(tracks[own].layout().sectors)] = 1 + rng.below(3) as u8;
         for size in [128, 256, 512, 1_024] {
             contents.data = rng.bytes(size);
             let number = if size == tracks[own].layout().size { 0 } else { 34 };
             is_answered(&mut tally, &mut rng, &contents, number);
         }
     }
+    tally.report();
+}
+
+/// G7: nobody asks on which cylinder a 3 or a 27 stands, nor whether the bytes of a 3 are F and zeros.
+#[test]
+fn g7_answers_on_any_cylinder() {
+    let mut rng = Rng::new(25);
+    let mut tally = Tally::new("file", "answers 3 and 27 on any cylinder");
+    let second = Track { layout: 1, cylinder: 0, side: 1 };
+    for track in [FM, second, MFM, Track { cylinder: 1, ..MFM }, Track { layout: 3, cylinder: 74, side: 0 }] {
+        let layout = track.layout();
+        let any = [3, 27].into_iter().cycle().take(layout.sectors).collect();
+        let contents = Contents::answered(&mut rng, &[track], any);
+        assert_eq!(contents.data.len(), (layout.sectors + 1) / 2 * layout.size);
+        is_answered(&mut tally, &mut rng, &contents, 0);
+        let mut read = contents.clone();
+        for slot in read.data.chunks_mut(layout.size) {
+            slot.fill(0);
+            slot[0] = b'F';
+        }
+        is_answered(&mut tally, &mut rng, &read, 0);
+    }
+    tally.has_met(Row::FileAnswer, &[3, 27]);
     tally.report();
 }

@@ -10,7 +10,7 @@ use harness::tracks::EACH;
 fn areas_of_every_length() {
     let mut rng = Rng::new(40);
     let mut tally = Tally::new("file", "areas of every length");
-    let one_block = [vec![23; 7], vec![1]].concat();
+    let one_block = [vec![27; 7], vec![3]].concat();
     let cases = [
         Contents::default(),
         Contents::default().labelled(b"A LABEL"),

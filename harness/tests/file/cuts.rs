@@ -17,7 +17,7 @@ fn files_cut_after_every_byte() {
         Contents::all(&mut rng, &EACH[..1], 26).labelled(b"NO DATA"),
         Contents::all(&mut rng, &some, 24),
         Contents::all(&mut rng, &EACH[..2], 1).labelled(&[0; 80]),
-        Contents::answered(&mut rng, &EACH[3..], vec![1, 2, 26, 26, 26, 26, 26, 21]).labelled(b"TWO BLOCKS"),
+        Contents::answered(&mut rng, &EACH[3..], vec![3, 2, 26, 27, 26, 26, 26, 21]).labelled(b"TWO BLOCKS"),
     ];
     for contents in cases {
         let file = contents.file();

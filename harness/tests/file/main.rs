@@ -15,7 +15,7 @@ use harness::compare::file::{read, round_trip, write};
 use harness::files::{self, layouts, pairs, Contents};
 use harness::rng::Rng;
 use harness::station::{Sections, LONGEST_FILE, LONGEST_HEAD, LONGEST_LABEL, MOST_ANSWERS, MOST_TRACKS};
-use harness::tally::met::ANSWERS;
+use harness::tally::met::{Row, ANSWERS};
 use harness::tally::Tally;
 use harness::tracks::{Track, EACH};
 
@@ -37,12 +37,12 @@ fn a_file_of_nothing() {
 fn a_file_in_numbers() {
     let mut rng = Rng::new(2);
     let mut tally = Tally::new("file", "a file in numbers");
-    // layout 3 on cylinder 5, side 1: of eight sectors the second has 1,024 bytes
-    let answers = vec![26, 1, 21, 22, 23, 24, 25, 26];
-    let (label, tracks, data) = (b"NO 47".to_vec(), vec![5, 1, 3], rng.bytes(1_024));
+    // layout 3 on cylinder 5, side 1: of eight sectors the second and the seventh have 1,024 bytes each
+    let answers = vec![26, 1, 27, 22, 23, 24, 3, 26];
+    let (label, tracks, data) = (b"NO 47".to_vec(), vec![5, 1, 3], rng.bytes(2_048));
     let contents = Contents { label, tracks, answers, data };
-    let file = round_trip(&mut tally, &mut rng, &contents, 1_100);
-    let head = b"\0\0\0\x05NO 47\0\0\0\x01\x05\x01\x03\0\0\0\x08\x1A\x01\x15\x16\x17\x18\x19\x1A\0\0\x04\0";
+    let file = round_trip(&mut tally, &mut rng, &contents, 2_100);
+    let head = b"\0\0\0\x05NO 47\0\0\0\x01\x05\x01\x03\0\0\0\x08\x1A\x01\x1B\x16\x17\x18\x03\x1A\0\0\x08\0";
     assert_eq!(file, [&head[..], &contents.data].concat());
     let expected = Sections {
         label_place: 4,
@@ -52,7 +52,7 @@ fn a_file_in_numbers() {
         answers_place: 20,
         answers_count: 8,
         data_place: 32,
-        data_count: 1_024,
+        data_count: 2_048,
     };
     assert_eq!(read(&mut tally, &mut rng, &file), (0, expected));
     tally.report();
@@ -96,6 +96,7 @@ fn the_same_answer_everywhere() {
             round_trip(&mut tally, &mut rng, &contents, contents.file().len());
         }
     }
+    tally.has_met(Row::FileAnswer, &ANSWERS);
     tally.report();
 }
 

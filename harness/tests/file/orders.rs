@@ -52,7 +52,7 @@ impl Fault {
 
 /// Two tracks, whose first entry, first answer and some data are there also where a section is cut.
 fn right(rng: &mut Rng) -> Contents {
-    let answers = [vec![1; 2], vec![24; 50]].concat();
+    let answers = [vec![1, 3], vec![24; 25], vec![27; 25]].concat();
     Contents::answered(rng, &EACH[..2], answers).labelled(b"LABEL")
 }
 
@@ -79,7 +79,7 @@ fn spoilt(rng: &mut Rng, faults: &[Fault]) -> Vec<u8> {
                 }
             }
             WrongTrack => contents.tracks[rng.below(3)] = [75, 255][rng.below(2)],
-            WrongAnswer => contents.answers[0] = [0, 20, 28, 255][rng.below(4)],
+            WrongAnswer => contents.answers[0] = [0, 4, 20, 28, 255][rng.below(5)],
             LeftOver => behind = vec![rng.byte(); 1 + rng.below(20)],
         }
     }
@@ -116,7 +116,7 @@ const WRITING_FAULTS: [WritingFault; 6] = [
     (32, |rng, contents| contents.tracks.extend([74, 0][..1 + rng.below(2)].to_vec())),
     (32, |_, contents| contents.tracks[5] = 0),
     (33, |rng, contents| contents.answers.extend(vec![21; 1 + rng.below(3)])),
-    (33, |rng, contents| contents.answers[rng.below(52)] = [28, 128][rng.below(2)]),
+    (33, |rng, contents| contents.answers[rng.below(52)] = [4, 28, 128][rng.below(3)]),
     (34, |_, contents| contents.data.truncate(255)),
 ];
 

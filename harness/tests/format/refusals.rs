@@ -164,8 +164,9 @@ fn letter_d() {
         for slot in some_slots(track) {
             for mark in [0xFB, 0xF8] {
                 let counts = track.cylinder == 0 && mark == 0xF8;
-                // every byte where it counts, elsewhere some
-                for first in (0..=0xFF).step_by(if counts { 1 } else { 0x22 }) {
+                // every byte where it counts, elsewhere some, D and F among them
+                let some = (0..=0xFF).step_by(if counts { 1 } else { 0x22 });
+                for first in some.chain([0x46]) {
                     let mut call = right.clone();
                     call.marks[slot] = mark;
                     call.data[slot * size] = first;

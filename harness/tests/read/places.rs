@@ -6,7 +6,8 @@ use harness::station::{Record, NO_PLACE};
 use harness::tally::met::{Row, ANSWERS};
 use harness::tally::Tally;
 use harness::tracks::damage::{shifted, turn};
-use harness::tracks::sketch::{cells_of, Control, Data, Kind, Open};
+use harness::tracks::letters::{lay, lettered};
+use harness::tracks::sketch::{cells_of, contents, Control, Data, Kind, Open};
 use harness::tracks::{self, random, worn, Track};
 
 /// The first data mark of each layout and the stretch from one to the next, in image bytes: 01, "Small facts" and "Order
@@ -23,7 +24,7 @@ fn formatted(track: Track, sector: usize) -> usize {
 fn marks_of(answer: u32) -> &'static [Kind] {
     match answer {
         1 => &[Data],
-        2 => &[Control],
+        2 | 3 | 27 => &[Control],
         24 => &[Data, Control, Open],
         25 => &[Open],
         26 => &[Data, Control],
@@ -50,11 +51,18 @@ fn every_sector_of_a_formatted_track() {
     let mut rng = Rng::new(50);
     let mut tally = Tally::new("read", "places on formatted tracks");
     for track in tracks::all() {
-        let (image, _, marks) = track.random(&mut rng);
+        let (image, data, marks) = track.random(&mut rng);
         let call = Call::new(track, image);
         let outcome = compare(&mut tally, &mut rng, &call);
-        for (sector, mark) in (1..).zip(marks) {
-            let expected = at(if mark == 0xFB { 1 } else { 2 }, formatted(track, sector));
+        let firsts = data.iter().step_by(track.layout().size);
+        for (sector, (mark, first)) in (1..).zip(marks.into_iter().zip(firsts)) {
+            // on cylinder 0 nothing but D is formatted behind a control mark
+            let answer = match (mark, first) {
+                (0xFB, _) => 1,
+                (_, 0x46) => 3,
+                _ => 2,
+            };
+            let expected = at(answer, formatted(track, sector));
             assert_eq!(outcome.reading.records[sector - 1], expected, "sector {sector}: {track:?}");
         }
         stand(&call, &outcome);
@@ -62,35 +70,40 @@ fn every_sector_of_a_formatted_track() {
     tally.report();
 }
 
-/// A formatted track some cells later, on which the first sectors and the last read by every number but 1 and 2: the
-/// image, and their records.
-fn with_every_refusal(rng: &mut Rng, track: Track, by: usize) -> (Vec<u8>, [Record; 6]) {
+/// A formatted track some cells later, on which the first sectors and the last read by every number but 1 and 2, and of 3
+/// and 27 by the one that the cylinder has: the image, and their records.
+fn with_every_other(rng: &mut Rng, track: Track, by: usize) -> (Vec<u8>, [Record; 7]) {
     let (mode, last) = (track.mode(), track.layout().sectors);
     let (mut image, length) = (track.random(rng).0, Data.image(mode).len());
     let (identifier, mark) = (|sector| track.places(sector).0, |sector| formatted(track, sector) / 8);
     // sector 2 takes the number of sector 1, so that nobody has its own
     image.copy_within(identifier(1)..identifier(1) + length + 12, identifier(2));
-    // the mark of 3 is spoilt, that of 4 is open, a data cell of 5 is wrong, and the capture ends in the last block
+    // the mark of 3 is spoilt, that of 4 is open, the EDC of 5 is wrong, 6 is a control record with F, and the capture ends
+    // in the last block
     turn(&mut image, 8 * mark(3) + 1);
     image[mark(4)..][..length].copy_from_slice(Open.image(mode));
-    turn(&mut image, 8 * (mark(5) + length) + 3);
+    lay(&mut image, track, 5, Data, &contents(track, 5), false);
+    lay(&mut image, track, 6, Control, &lettered(track, 6, b'F'), true);
     image.truncate(mark(last) + length + 9);
     let image = shifted(rng, &[&image[..], &[0; 2]].concat(), by);
     let found = |answer, sector| at(answer, formatted(track, sector) + by);
-    (image, [nowhere(22), nowhere(21), nowhere(23), found(25, 4), found(26, 5), found(24, last)])
+    let with_f = if track.cylinder == 0 { 27 } else { 3 };
+    let records =
+        [nowhere(22), nowhere(21), nowhere(23), found(25, 4), found(26, 5), found(with_f, 6), found(24, last)];
+    (image, records)
 }
 
 #[test]
-fn every_refusal_at_any_cell() {
+fn every_other_answer_at_any_cell() {
     let mut rng = Rng::new(51);
-    let mut tally = Tally::new("read", "places of refused sectors, shifted by 0 to 15 cells");
+    let mut tally = Tally::new("read", "places of sectors that are not read, shifted by 0 to 15 cells");
     for track in tracks::EACH {
         for by in 0..16 {
-            let (image, expected) = with_every_refusal(&mut rng, track, by);
+            let (image, expected) = with_every_other(&mut rng, track, by);
             let call = Call::new(track, image);
             let outcome = compare(&mut tally, &mut rng, &call);
             let (records, last) = (outcome.reading.records, track.layout().sectors);
-            let found = [records[0], records[1], records[2], records[3], records[4], records[last - 1]];
+            let found = [&records[..6], &[records[last - 1]]].concat();
             assert_eq!(found, expected, "{by} cells later: {track:?}");
             stand(&call, &outcome);
         }
@@ -111,10 +124,10 @@ fn marks_stand_at_all_places() {
         let call = Call::new(track, image(&mut rng, track));
         let outcome = compare(&mut tally, &mut rng, &call);
         stand(&call, &outcome);
-        let refused = outcome.reading.records.iter().filter(|record| [24, 25, 26].contains(&record.answer));
-        refused.for_each(|record| offsets[record.place as usize % 8] += 1);
+        let others = outcome.reading.records.iter().filter(|record| [3, 24, 25, 26, 27].contains(&record.answer));
+        others.for_each(|record| offsets[record.place as usize % 8] += 1);
     }
-    assert!(offsets.iter().all(|&met| met > 0), "places of refused sectors by the cell of a byte: {offsets:?}");
+    assert!(offsets.iter().all(|&met| met > 0), "places of such sectors by the cell of a byte: {offsets:?}");
     tally.has_met(Row::Answer, &ANSWERS);
     tally.report();
 }

@@ -1,4 +1,4 @@
-//! The traps of `harness::tracks::traps`, each with the outcome that 01 wants.
+//! The traps of `harness::tracks::traps`, each with the outcome that 01 and 02 want.
 use harness::compare::read::{agrees, compare, Call, Outcome};
 use harness::rng::Rng;
 use harness::tally::Tally;
@@ -121,6 +121,41 @@ fn wrong_edc() {
 }
 
 #[test]
+fn h1_3_before_26_and_others_before_3() {
+    spring("H1", 36);
+}
+
+#[test]
+fn h2_never_3_on_cylinder_0() {
+    spring("H2", 4);
+}
+
+#[test]
+fn h3_f_and_zeros_with_a_right_edc() {
+    spring("H3", 6);
+}
+
+#[test]
+fn h4_other_letters() {
+    spring("H4", 26);
+}
+
+#[test]
+fn h5_rewritten_records() {
+    spring("H5", 22);
+}
+
+#[test]
+fn h6_data_records_with_f() {
+    spring("H6", 8);
+}
+
+#[test]
+fn h7_the_callers_cylinder() {
+    spring("H7", 16);
+}
+
+#[test]
 fn every_trap_has_a_test() {
-    assert_eq!(all().len(), 83);
+    assert_eq!(all().len(), 201);
 }

@@ -12,7 +12,7 @@ use harness::tracks::{self, Track};
 
 /// Cuts the rewrite after every number of stores: nothing but the named sector reads otherwise, and that one as the
 /// papers want it, at its old place.
-fn every_cut(tally: &mut Tally, rng: &mut Rng, call: &Call) {
+pub fn every_cut(tally: &mut Tally, rng: &mut Rng, call: &Call) {
     let plan = call.plan(tally, rng);
     let all = plan[3] as usize;
     let before = call.before(plan);

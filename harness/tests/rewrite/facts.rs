@@ -7,7 +7,8 @@ use harness::reference::edc::edc;
 use harness::reference::records::{at, nowhere};
 use harness::rng::Rng;
 use harness::tally::Tally;
-use harness::tracks::sketch::{contents, Data, Identifier, Sketch};
+use harness::tracks::letters::lay;
+use harness::tracks::sketch::{contents, Data, Identifier, Open, Sketch};
 use harness::tracks::{self, Track};
 
 /// The image bytes of a mark.
@@ -146,10 +147,9 @@ fn d11_open_and_wrong_blocks() {
     let mut tally = Tally::new("rewrite", "open and wrong sectors");
     for track in tracks::EACH {
         let (mut image, ..) = track.random(&mut rng);
-        let last = |sector| track.places(sector).1 + mark_bytes(track) - 1;
-        // sector 1 is open, in sector 2 a data cell is wrong
-        image[last(1)] = if track == tracks::FM { 0x6B } else { 0x49 };
-        image[last(2) + 9] ^= 0x10;
+        // of a control record with F the EDC would not matter
+        lay(&mut image, track, 1, Open, &contents(track, 1), true);
+        lay(&mut image, track, 2, Data, &contents(track, 2), false);
         let records = [at(25, 8 * track.places(1).1), at(26, 8 * track.places(2).1)];
         assert_eq!(Outcome::of_image(track, &image).reading.records[..2], records, "{track:?}");
         for sector in [1, 2] {

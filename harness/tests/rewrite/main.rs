@@ -5,6 +5,7 @@ mod cuts;
 mod damaged;
 mod facts;
 mod hostile;
+mod letters;
 mod literal;
 mod refusals;
 mod steps;
@@ -69,7 +70,7 @@ fn the_same_byte_everywhere() {
     let mut tally = Tally::new("rewrite", "the same byte everywhere");
     for track in tracks::EACH {
         let (image, ..) = track.random(&mut rng);
-        for byte in [0x44, 0x00, 0xFF, 0x4E, 0xA1, 0xC2, 0x01, 0x80] {
+        for byte in [0x44, 0x46, 0x00, 0xFF, 0x4E, 0xA1, 0xC2, 0x01, 0x80] {
             for mark in [0xFB, 0xF8].into_iter().filter(|&mark| track.cylinder > 0 || mark == 0xFB || byte == 0x44) {
                 let contents = vec![byte; track.layout().size];
                 rewrite(&mut tally, &mut rng, &Call { track, sector: 3, mark, contents, image: image.clone() });

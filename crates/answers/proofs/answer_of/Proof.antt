@@ -34,11 +34,20 @@ unfolding answerOf
 returns-7 c = sym (ap answerOf (c .match .keys7))
 
 returns-8 : tie.Need-returns-8
-returns-8 c =
+unfolding answerOf
+returns-8 c = sym (ap answerOf (c .match .keys8))
+
+returns-9 : tie.Need-returns-9
+unfolding answerOf
+returns-9 c = sym (ap answerOf (c .match .keys9))
+
+returns-10 : tie.Need-returns-10
+returns-10 c =
     let r = c .match .rest in
-    answer-none _ (r .0 .0 .0 .0 .0 .0 .1) (r .0 .0 .0 .0 .0 .1) (r .0 .0 .0 .0 .1) (r .0 .0 .0 .1) (r .0 .0 .1) (r .0 .1) (r .1)
+    let low = r .0 .0 .0 .0 .0 .0 in
+    answer-none _ (low .0 .0 .1) (low .0 .1) (low .1) (r .0 .0 .0 .0 .0 .1) (r .0 .0 .0 .0 .1) (r .0 .0 .0 .1) (r .0 .0 .1) (r .0 .1) (r .1)
 
 pub answer-of-spec : {M : Type 1} → statement M
 answer-of-spec =
     tie.close
-    (tie.spec returns returns-2 returns-3 returns-4 returns-5 returns-6 returns-7 returns-8)
+    (tie.spec returns returns-2 returns-3 returns-4 returns-5 returns-6 returns-7 returns-8 returns-9 returns-10)

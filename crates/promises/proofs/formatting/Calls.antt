@@ -1,22 +1,26 @@
 -- The round trip through the calls: what format accepts reads back, and read does not refuse the image that format leaves.
 use mathlib.Core.Path.{_≡_, refl, sym, ap, ap₂, subst, _∙_}
+use mathlib.Core.Bool.{Bool, false}
 use mathlib.Core.List.{List, [], _∷_, _++_}
-use Prim.Native.Nat.{ℕ, _+_, _-_, _*_, _≤_}
+use mathlib.Core.Logic.{⊎-elim}
+use Prim.Native.Nat.{ℕ, zero, suc, _+_, _-_, _*_, _<_, _≤_}
+use native.Mathlib.Nat.{eq-or-lt-of-le}
 use native.Mathlib.Omega.{arith}
 use borrow.Author.Needs.{needs}
 use borrow.Author.Tests.{eq-eqb, ne-eqb, le-ltb}
-use lib.ListN.{length, getD}
+use lib.ListN.{length, getD, drop}
+use lib.Seq.{getD-take, getD-drop}
 use Rattle.cells.specs.Cells.{cell, Bytes}
 use Rattle.format.specs.Order.{Numbered, formatted}
 use Rattle.format.specs.Places.{blockPlace}
-use Rattle.format.specs.Refusals.{formTests, formatTests}
+use Rattle.format.specs.Refusals.{some, formTests, contentTests, formatTests}
 use Rattle.calls.specs.declared.Checked.the-variants.{Passed}
-use Rattle.calls.proofs.Refusals.{told-passed}
+use Rattle.calls.proofs.Refusals.{told-passed, or-left, or-right}
 use Rattle.format.proofs.Accepted.{Accepted, accepted}
 use Rattle.format.proofs.Judged.{passed-by}
 use Rattle.format.proofs.Parts.{slots, length-numbers, length-fields, numbered}
 use Rattle.layouts.specs.Layouts.{layoutOf, mostSectors, numbers, slotIn}
-use Rattle.calls.specs.Refusals.{longestImage, imageTest, areaTest}
+use Rattle.calls.specs.Refusals.{longestImage, imageTest, areaTest, controlTest}
 use Rattle.layouts.specs.Refusals.{trackTests, readingTests}
 use Rattle.layouts.specs.Tracks.{trackOf}
 use Rattle.layouts.specs.declared.Layout.{Layout}
@@ -32,12 +36,12 @@ use Rattle.read.proofs.Passing.{modest}
 use Rattle.read.proofs.Recording.{length-sector}
 use Rattle.read.proofs.Sectors.{map-at, slots-at, length-slots}
 use Rattle.verdicts.specs.Tests.{passed, refusal, by}
-use Rattle.verdicts.proofs.Tests.{append-passed, passed-both}
+use Rattle.verdicts.proofs.Tests.{append-passed, passed-both, first-passed}
 use Rattle.walk.specs.Events.{blocks}
 use Rattle.walk.specs.Outcomes.{met}
 use Rattle.promises.specs.RoundTrip.{Legible, ReadsBack, ReadsBackAsWritten}
 use Rattle.promises.specs.Sectors.{sectorIn}
-use Rattle.promises.proofs.formatting.Trip.{OnePlace, one-place, round-trip, natural, natural-position}
+use Rattle.promises.proofs.formatting.Trip.{Permitted, OnePlace, one-place, round-trip, natural, natural-position}
 
 -- ---- the layouts
 
@@ -65,6 +69,21 @@ reading-passes layout cylinder side image area t some short e =
     let d = passed-by (areaTest (layoutOf layout .«area_bytes») area) [] (rw (eq-eqb area (layoutOf layout .«area_bytes») e)) in
     append-passed (trackTests layout cylinder side ++ (imageTest image ∷ [])) _ (a ∙ b) ∙ d
 
+-- A test that holds of none of the numbers in order does not hold of one of them.
+none-of : (test : ℕ → Bool) (k a s : ℕ) → a ≤ s → s < a + k → some test (numbers k a) ≡ false → test s ≡ false
+unfolding some
+none-of test zero a s low high e = absurd (omega arith)
+none-of test (suc k) a s low high e =
+    let later = some test (numbers k (suc a)) in
+    ⊎-elim (λ (q : a ≡ s). subst (λ x. test x ≡ false) q (or-left (test a) later e))
+    (λ (q : a < s). none-of test k (suc a) s q (omega arith) (or-right (test a) later e)) (eq-or-lt-of-le low)
+
+-- The first byte of a sector's slot stands in the area where the slot begins.
+first-of-slot : (size s : ℕ) (area : List ℕ) → 1 ≤ size → (P : ℕ → Type 0) → P (getD area ((s - 1) * size) 0) → P (getD (slotIn size s area) 0 0)
+first-of-slot size s area some P h =
+    let at : (s - 1) * size + 0 ≡ (s - 1) * size = omega arith in
+    subst P (sym (getD-take size (drop ((s - 1) * size) area) 0 0 some ∙ getD-drop ((s - 1) * size) area 0 0 ∙ ap (λ (i : ℕ). getD area i 0) at)) h
+
 -- ---- what read hands back of a sector
 
 module _ (t : Track) (image : List ℕ) (s : ℕ) (low : 1 ≤ s) (high : s ≤ t .layout .sectors) where
@@ -79,21 +98,21 @@ module _ (t : Track) (image : List ℕ) (s : ℕ) (low : 1 ≤ s) (high : s ≤ 
       ap₂ (λ (a : Answered) (p : ℕ). record { answer = a .answer; place = p }) (said-read itsAnswer unanswered few) (said-read itsPlace 0 few)
 
   -- and its slot in the area.
-  pub slot-read : (area : List ℕ) → area ≡ areaOf t (cell image) (8 * length image) (met t image)
+  pub slot-read : 1 ≤ t .layout .size → (area : List ℕ) → area ≡ areaOf t (cell image) (8 * length image) (met t image)
       → slotIn (t .layout .size) s area ≡ sectorIn t image s .slot
   unfolding areaOf
-  slot-read area e =
+  slot-read some area e =
       ap (slotIn (t .layout .size) s) e
-      ∙ slots-at (t .layout .size) (λ x. sectorIn t image x .slot) (λ x. length-sector t (cell image) (8 * length image) (met t image) x)
+      ∙ slots-at (t .layout .size) (λ x. sectorIn t image x .slot) (λ x. length-sector t (cell image) (8 * length image) some (met t image) x)
       (t .layout .sectors) 1 s low (omega arith)
 
 -- The area has a slot for each sector.
-pub length-read : (t : Track) (image area : List ℕ) → area ≡ areaOf t (cell image) (8 * length image) (met t image)
+pub length-read : (t : Track) (image area : List ℕ) → 1 ≤ t .layout .size → area ≡ areaOf t (cell image) (8 * length image) (met t image)
     → length area ≡ t .layout .sectors * t .layout .size
 unfolding areaOf
-length-read t image area e =
+length-read t image area some e =
     ap length e
-    ∙ length-slots (t .layout .size) (λ x. sectorIn t image x .slot) (λ x. length-sector t (cell image) (8 * length image) (met t image) x)
+    ∙ length-slots (t .layout .size) (λ x. sectorIn t image x .slot) (λ x. length-sector t (cell image) (8 * length image) some (met t image) x)
     (t .layout .sectors) 1
 
 -- ---- the calls
@@ -114,6 +133,17 @@ module _ (layout cylinder side : ℕ) (contents marks : List ℕ) (given : ℕ) 
   known : Accepted layout cylinder side contents marks given
   known = accepted layout cylinder side contents marks given passes
 
+  -- Refusal 7 was given for none of its sectors.
+  permitted : Permitted t contents marks
+  unfolding formatTests contentTests
+  permitted s h =
+      let l = layoutOf layout in
+      let five = first-passed _ _ (passed-both (formTests layout cylinder side given) _ passes .1) in
+      let seven = first-passed _ _ (first-passed _ _ (five .1) .1) .0 in
+      let test : ℕ → Bool = λ x. controlTest cylinder (getD marks (x - 1) 0) (getD contents ((x - 1) * l .size) 0) .applies in
+      first-of-slot (l .size) s contents (modest layout .2) (λ first. controlTest cylinder (getD marks (s - 1) 0) first .applies ≡ false)
+      (none-of test (l .sectors) 1 s (h .0) (omega (arith, h .1)) seven)
+
   -- What format accepts reads back.
   pub accepted-trip : ReadsBack t contents marks (numbers (layoutOf layout .sectors) 1) (written t contents marks)
   accepted-trip =
@@ -121,7 +151,7 @@ module _ (layout cylinder side : ℕ) (contents marks : List ℕ) (given : ℕ) 
       let cylinders = k .cylinders in
       let sides = k .sides in
       round-trip t (legible layout) (omega arith) (omega arith) contents marks all (k .area) (numbers (layoutOf layout .sectors) 1)
-      (natural (layoutOf layout))
+      (natural (layoutOf layout)) permitted
 
   -- Each of its sectors has one block.
   pub accepted-place : (s : ℕ) → Numbered (layoutOf layout) s → OnePlace (blocks s (met t (written t contents marks)))
@@ -168,6 +198,6 @@ format-then-read layout cylinder side contents marks before image answer area al
           ∙ ap (λ (r : Record). r .place) (record-read t image s (h .0) (h .1) (modest layout .1))
           ∙ back-so .places s h
           ∙ ap (λ (i : ℕ). 8 * blockPlace (layoutOf layout) i) (natural-position s (layoutOf layout .sectors) 1 (h .0) (omega (arith, h .1)));
-      slots = λ s h. slot-read t image s (h .0) (h .1) area left ∙ back-so .sectors s h .holds;
-      whole = length-read t image area left;
+      slots = λ s h. slot-read t image s (h .0) (h .1) (modest layout .2) area left ∙ back-so .sectors s h .holds;
+      whole = length-read t image area (modest layout .2) left;
     }

@@ -9,6 +9,7 @@ use lib.Dec.{eqb}
 use lib.ListN.{length, getD, take}
 use lib.Seq.{take-at}
 use borrow.Author.Tests.{eqb-true}
+use Rattle.calls.specs.Refusals.{controlTest}
 use Rattle.cells.specs.Cells.{dataBytes}
 use Rattle.cells.specs.declared.Mode.{Mode}
 use Rattle.edc.specs.Register.{edcOf, edcBytes}
@@ -97,8 +98,9 @@ data-of mode m c a k xs h e = sym (data-take c a k 2) ∙ ap (take k) e ∙ take
 -- A sector with a single block reads as what went in.
 pub single-so : (t : Track) (c : ℕ → ℕ) (n : ℕ) (contents marks : List ℕ) (s at : ℕ) (es : List Event) → s ≤ t .layout .sectors
     → Single t c n contents marks s at (blocks s es) → length (slotIn (t .layout .size) s contents) ≡ t .layout .size
+    → controlTest (t .cylinder) (getD marks (s - 1) 0) (getD (slotIn (t .layout .size) s contents) 0 0) .applies ≡ false
     → ReadsSo (sectorOf t c n es s) (wentIn t contents marks s)
-single-so t c n contents marks s at es high here long =
+single-so t c n contents marks s at es high here long seven =
     let l = t .layout in
     let stood = here .stood in
     let room = stood .room in
@@ -108,7 +110,7 @@ single-so t c n contents marks s at es high here long =
     (written-so t c n place (getD marks (s - 1) 0) (slotIn (l .size) s contents)
     (stands-at (l .mode) c n m place (omega arith) (stood .marked))
     (data-of (l .mode) m c (place + markCells (l .mode)) (l .size) (slotIn (l .size) s contents) long (stood .holds))
-    (edc-right (l .mode) c m (place + markCells (l .mode)) (l .size + 2) (slotIn (l .size) s contents) (stood .holds)))
+    (edc-right (l .mode) c m (place + markCells (l .mode)) (l .size + 2) (slotIn (l .size) s contents) (stood .holds)) seven)
 
 -- Its place is that of the block.
 pub single-placed : (t : Track) (c : ℕ → ℕ) (n : ℕ) (contents marks : List ℕ) (s at : ℕ) (es : List Event) → s ≤ t .layout .sectors

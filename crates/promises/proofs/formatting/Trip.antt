@@ -1,19 +1,20 @@
 -- The round trip, for any layout whose constants serve and any order of its sectors: what the walk meets, and how the sectors read. Then natural
 -- order.
 use mathlib.Core.Path.{_≡_, refl, ap, _∙_}
-use mathlib.Core.Bool.{cond}
+use mathlib.Core.Bool.{false, cond}
 use mathlib.Core.List.{List, [], _∷_}
 use mathlib.Core.Logic.{⊎-elim}
 use Prim.Native.Nat.{ℕ, zero, suc, _+_, _-_, _*_, _<_, _≤_}
 use native.Mathlib.Nat.{le-mul-of-pos-right, eq-or-lt-of-le}
 use native.Mathlib.Omega.{arith}
 use lib.Dec.{eqb}
-use lib.ListN.{length}
+use lib.ListN.{length, getD}
 use borrow.Author.Tests.{eq-eqb, ne-eqb}
+use Rattle.calls.specs.Refusals.{controlTest}
 use Rattle.cells.specs.Cells.{cell, Byte, Bytes}
 use Rattle.format.specs.Order.{Numbered, formatted}
 use Rattle.format.proofs.Parts.{slotted, slots, length-slot, length-formatted, numbered}
-use Rattle.layouts.specs.Layouts.{Every, numbers, sectorFields}
+use Rattle.layouts.specs.Layouts.{Every, numbers, sectorFields, slotIn}
 use Rattle.layouts.specs.declared.Layout.{Layout}
 use Rattle.layouts.specs.declared.Track.{Track}
 use Rattle.format.specs.Places.{blockPlace}
@@ -27,6 +28,13 @@ use Rattle.promises.specs.Sectors.{sectorIn, ReadsSo}
 use Rattle.promises.proofs.formatting.Single.{none-bad, none-foreign, Single, single, single-so, single-placed}
 use Rattle.promises.proofs.formatting.Rounds.{walk-held}
 use Rattle.promises.proofs.formatting.Held.{fields-sum, Held, track-held}
+
+-- Refusal 7 lets all sectors be written.
+abbrev pub Permitted : Track → (contents marks : List ℕ) → Type 0
+Permitted t contents marks =
+    (s : ℕ)
+    → Numbered (t .layout) s
+    → controlTest (t .cylinder) (getD marks (s - 1) 0) (getD (slotIn (t .layout .size) s contents) 0 0) .applies ≡ false
 
 -- These blocks are one, at an image byte.
 pub record OnePlace (bs : List Block) : Type 0 where
@@ -62,11 +70,12 @@ module _ (t : Track) (fit : Legible (t .layout)) (hc : Byte (t .cylinder)) (hs :
     pub one-place : (s : ℕ) → Numbered (t .layout) s → OnePlace (blocks s (met t im))
     one-place s h = let b = one-block s h in record { byte = blockPlace (t .layout) (0 + position s order); alone = b .one }
 
-    sectors : (s : ℕ) → Numbered (t .layout) s → ReadsSo (sectorIn t im s) (wentIn t contents marks s)
-    sectors s h =
+    sectors : Permitted t contents marks → (s : ℕ) → Numbered (t .layout) s → ReadsSo (sectorIn t im s) (wentIn t contents marks s)
+    sectors permitted s h =
         single-so t (cell im) (8 * length im) contents marks s (0 + position s order) (met t im) (h .1)
         (one-block s h)
         (length-slot (t .layout .size) contents s (slotted (t .layout .sectors) (t .layout .size) contents long s (h .0) (h .1)))
+        (permitted s h)
 
     places : (s : ℕ) → Numbered (t .layout) s → sectorIn t im s .known .place ≡ 8 * blockPlace (t .layout) (position s order)
     places s h =
@@ -75,13 +84,13 @@ module _ (t : Track) (fit : Legible (t .layout)) (hc : Byte (t .cylinder)) (hs :
         ∙ ap (λ (i : ℕ). 8 * blockPlace (t .layout) i) from-zero
 
     -- A formatted track reads back.
-    pub round-trip : ReadsBack t contents marks order im
-    round-trip =
+    pub round-trip : Permitted t contents marks → ReadsBack t contents marks order im
+    round-trip permitted =
         record {
           meets = meets;
           bad = rw meets (none-bad (t .layout) 0 order);
           foreign = rw meets (none-foreign (t .layout) 0 order);
-          sectors = sectors;
+          sectors = sectors permitted;
           places = places;
         }
 

@@ -13,7 +13,7 @@ use Rattle.layouts.specs.declared.Track.{Track}
 use Rattle.marks.specs.Marks.{markCells, stands}
 use Rattle.marks.specs.declared.Mark.{Mark}
 use Rattle.marks.specs.declared.Mark.the-variants as marks
-use Rattle.read.specs.Records.{Sector, answering, proved, blockAnswer, blockBytes, identifierRecord, recordFor, sectorOf}
+use Rattle.read.specs.Records.{Sector, answering, blockAfter, blockAnswer, blockBytes, identifierRecord, recordFor, sectorOf}
 use Rattle.answers.specs.declared.Answer.{Answer}
 use Rattle.search.proofs.Searching.{searchable}
 use Rattle.walk.specs.Events.{bads, foreigns, blocks}
@@ -57,13 +57,13 @@ module _ (t : Track) (c d : ℕ → ℕ) (n : ℕ) where
         → dataBytes d (p + markCells (t .layout .mode)) k ≡ dataBytes c (p + markCells (t .layout .mode)) k
     bytes-kept k u = bytes-same d c k (p + markCells (t .layout .mode)) (λ i a b. K .cells i (omega arith) (omega arith))
 
-    answer-kept : blockAnswer t d n p ≡ blockAnswer t c n p
-    unfolding blockAnswer proved edcRight
-    answer-kept = rw (K .mark marks.Open tt, K .mark marks.Control tt, bytes-kept (t .layout .size + 2) (omega arith))
-
     data-kept : blockBytes t d n p ≡ blockBytes t c n p
     unfolding blockBytes
     data-kept = bytes-kept (t .layout .size) (omega arith)
+
+    answer-kept : blockAnswer t d n p ≡ blockAnswer t c n p
+    unfolding blockAnswer blockAfter edcRight
+    answer-kept = rw (K .mark marks.Open tt, K .mark marks.Control tt, data-kept, bytes-kept (t .layout .size + 2) (omega arith))
 
   -- A block within the image is so kept.
   abbrev Keeps : Block → Type 0

@@ -17,6 +17,7 @@ use Rattle.layouts.specs.declared.Track.{Track}
 use Rattle.read.specs.Records.{Sector, itsAnswer, itsPlace, bySector, areaOf}
 use Rattle.read.specs.Outcomes.{readTests, readAnswer, readArea, Reads}
 use Rattle.read.specs.declared.Reading.{Reading}
+use Rattle.read.proofs.Passing.{modest}
 use Rattle.read.proofs.Recording.{length-sector}
 use Rattle.read.proofs.Sectors.{map-set, slots-set}
 use Rattle.verdicts.specs.Tests.{passed, refusal, by}
@@ -63,8 +64,8 @@ module _ (layout cylinder side sector : ℕ) (image now : List ℕ) (m : ℕ) (S
   unfolding areaOf
   area-but =
       slots-set (l .size) (λ x. sectorIn t image x .slot) (λ x. sectorIn t now x .slot) sector
-      (λ x. length-sector t (cell image) (8 * length image) (met t image) x)
-      (λ x. length-sector t (cell now) (8 * length now) (met t now) x)
+      (λ x. length-sector t (cell image) (8 * length image) (modest layout .2) (met t image) x)
+      (λ x. length-sector t (cell now) (8 * length now) (modest layout .2) (met t now) x)
       (λ x o. ap (λ (y : Sector). y .slot) (alike x (λ q. o (sym q)))) (l .sectors) 1 (S .low) (omega (arith, S .numbered))
 
   pub read-so : (before answer : Reading) (area after : List ℕ) → Reads layout cylinder side image (l .«area_bytes») before area

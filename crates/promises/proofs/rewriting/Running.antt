@@ -13,7 +13,7 @@ use lib.Seq.{getD-set-other}
 use Rattle.cells.specs.Cells.{cell}
 use Rattle.cells.proofs.Joined.{cell-lt}
 use Rattle.layouts.specs.Layouts.{highest, layoutOf, blockCells}
-use Rattle.calls.specs.Refusals.{imageTest, areaTest, markTest}
+use Rattle.calls.specs.Refusals.{imageTest, areaTest, markTest, controlTest}
 use Rattle.layouts.specs.Refusals.{numberTest}
 use Rattle.layouts.specs.Tracks.{trackOf}
 use Rattle.layouts.specs.declared.Layout.{Layout}
@@ -79,7 +79,7 @@ module _ (layout cylinder side sector mark : ℕ) (contents image : List ℕ) (m
   abbrev at : ℕ → Plan
   at j = planAt plan j
 
-  -- What 5 and 6 say of the contents and the mark.
+  -- What 5, 6 and 7 say of the contents and the mark.
   area : areaTest (l .size) (length contents) .applies ≡ false
   unfolding contentsTests
   area = first-passed _ _ F .0
@@ -90,6 +90,10 @@ module _ (layout cylinder side sector mark : ℕ) (contents image : List ℕ) (m
   asked : markTest mark .applies ≡ false
   unfolding contentsTests
   asked = first-passed _ _ (first-passed _ _ F .1) .0
+
+  pub permitted : controlTest cylinder mark (getD contents 0 0) .applies ≡ false
+  unfolding contentsTests
+  permitted = first-passed _ _ (first-passed _ _ (first-passed _ _ F .1) .1) .0
 
   -- ---- the place
 

@@ -30,7 +30,7 @@ use Rattle.promises.proofs.rewriting.Fitted.{cut-open, cut-closed}
 use Rattle.promises.proofs.rewriting.Rereading.{read-so}
 use Rattle.promises.proofs.rewriting.Filled.{holds-new, edc-new}
 use Rattle.promises.proofs.rewriting.Granted.{Sited}
-use Rattle.promises.proofs.rewriting.Running.{full, claims, room, whole-block, rewritten, new-mark}
+use Rattle.promises.proofs.rewriting.Running.{full, permitted, claims, room, whole-block, rewritten, new-mark}
 
 module _ (layout cylinder side sector mark : ℕ) (contents image : List ℕ) (m : ℕ) (S : Sited layout cylinder side sector image m)
     (F : Fit layout cylinder mark contents) where
@@ -113,7 +113,8 @@ module _ (layout cylinder side sector mark : ℕ) (contents image : List ℕ) (m
           written = λ e. own (readsBack cylinder mark contents)
               (written-so t (cell (now j)) n m mark contents (closed j e)
               (holds-new l image m (markOf mark) contents whole within (S .boundary) j e small)
-              (edc-new l image m (markOf mark) contents whole within (S .boundary) j e small));
+              (edc-new l image m (markOf mark) contents whole within (S .boundary) j e small)
+              (permitted layout cylinder side sector mark contents image m S F));
           placed = own-placed;
           reads = read-so layout cylinder side sector image (now j) m S same-length others bad foreign;
         }

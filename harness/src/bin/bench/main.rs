@@ -125,10 +125,10 @@ fn format(with_time: bool) {
 fn read(with_time: bool) {
     let rng = &mut Rng::new(5);
     for track in EACH {
-        let (image, ..) = track.random(rng);
+        let (image, ..) = track.plain(rng);
         read_image(&format!("read, layout {}", track.layout), track, &image, with_time);
     }
-    let (image, ..) = MFM.random(rng);
+    let (image, ..) = MFM.plain(rng);
     read_image("read, layout 1, shifted", MFM, &shifted(rng, &image, 3), with_time);
     for (name, track) in [("FM", FM), ("MFM", MFM)] {
         read_image(&format!("read, noise, {name}"), track, &rng.bytes(LONGEST), with_time);
@@ -239,7 +239,7 @@ fn rewrite(with_time: bool) {
         let size = track.layout().size;
         let stores = 2 * size + if track == FM { 6 } else { 7 };
         let contents = rng.bytes(size);
-        let image = RefCell::new(track.random(rng).0); // one for all calls
+        let image = RefCell::new(track.plain(rng).0); // one for all calls
         let drive = |(request, step): Rewrite| {
             let (mut plan, image) = ([0; 4], &mut *image.borrow_mut());
             assert_eq!(request(layout, cylinder, side, 5, 0xFB, &contents, image, &mut plan), 0);
@@ -259,7 +259,7 @@ fn edc_steps(with_time: bool) {
     for track in EACH.into_iter().filter(|&track| track != FM) {
         let Track { layout, cylinder, side } = track;
         let contents = rng.bytes(track.layout().size);
-        let (mut image, ..) = track.random(rng);
+        let (mut image, ..) = track.plain(rng);
         let mut plan = [0; 4];
         assert_eq!(station::request(layout, cylinder, side, 5, 0xFB, &contents, &image, &mut plan), 0);
         // the byte behind the block is looked at with its first data cell 0, as 4E has it: only then the EDC's last bit counts

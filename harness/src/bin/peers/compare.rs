@@ -1,5 +1,6 @@
 //! What the peer made of our disks, and we of its tracks.
 use crate::disks::{self, Disk, Written};
+use harness::compare::read_back;
 use harness::reference::coding::Mode;
 use harness::reference::layouts::of_track;
 use harness::reference::marks;
@@ -44,7 +45,7 @@ pub fn flat(disk: &Disk, written: &[Written], theirs: &[u8]) -> Count {
 /// What comparing the peer's tracks gave.
 #[derive(Default)]
 pub struct Tracks {
-    /// Sectors of tracks that the library addresses: read with our mark and bytes, at the place of their mark.
+    /// Sectors of tracks that the library addresses: read as our mark and bytes are, at the place of their mark.
     pub read: Count,
     /// Stretches from the (00)-bytes before the identifier to the end of the data EDC, cell for cell.
     pub stretches: Count,
@@ -85,10 +86,10 @@ fn read(ours: &Written, cells: &[u8], count: &mut Count) {
     let found = places(cells, track.mode());
     for sector in 0..layout.sectors {
         let slot = sector * layout.size..(sector + 1) * layout.size;
-        let answer = if ours.marks[sector] == marks::DATA { 1 } else { 2 };
+        let (answer, bytes) = read_back(track.cylinder, ours.marks[sector].into(), &ours.data[slot.clone()]);
         let record = only(&found, sector as u8 + 1).map(|theirs| at(answer, theirs.block));
         let is_right = refusal == 0 && record == Some(reading.records[sector]) && reading.counts == [0, 0];
-        count.add(is_right && area[slot.clone()] == ours.data[slot]);
+        count.add(is_right && area[slot] == bytes);
     }
 }
 

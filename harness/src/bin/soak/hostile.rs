@@ -4,7 +4,7 @@ use harness::compare::{format, pick, read, rewrite};
 use harness::reference::rewrite::Plan;
 use harness::rng::Rng;
 use harness::tally::Tally;
-use harness::tracks::{self, Track};
+use harness::tracks::{self, letters, Track};
 
 /// One call of each kind.
 pub fn calls(rng: &mut Rng) -> Vec<Tally> {
@@ -46,6 +46,12 @@ fn resize(rng: &mut Rng, bytes: &mut Vec<u8>) {
     bytes.resize(length, rng.byte());
 }
 
+/// A first byte: often one of the papers' letters.
+fn letter(rng: &mut Rng) -> u8 {
+    let other = rng.byte();
+    letters::letter(rng, other)
+}
+
 fn numbers(rng: &mut Rng, track: Track) -> Track {
     let Track { layout, cylinder, side } = track;
     Track { layout: number(rng, layout), cylinder: number(rng, cylinder), side: number(rng, side) }
@@ -58,7 +64,7 @@ fn formats(tally: &mut Tally, rng: &mut Rng, track: Track) {
         // another mark, or another first byte behind it
         let slot = rng.below(call.marks.len());
         call.marks[slot] = [rng.byte(), 0xF8][rng.below(2)];
-        call.data[slot * track.layout().size] = rng.byte();
+        call.data[slot * track.layout().size] = letter(rng);
     }
     for bytes in [&mut call.data, &mut call.marks, &mut call.image] {
         resize(rng, bytes);
@@ -87,7 +93,7 @@ fn requests(tally: &mut Tally, rng: &mut Rng, right: &rewrite::Call) {
     call.track = numbers(rng, call.track);
     (call.sector, call.mark) = (number(rng, call.sector), number(rng, call.mark));
     if rng.below(2) == 0 {
-        (call.mark, call.contents[0]) = (0xF8, rng.byte());
+        (call.mark, call.contents[0]) = (0xF8, letter(rng));
     }
     resize(rng, &mut call.contents);
     resize(rng, &mut call.image);

@@ -9,13 +9,14 @@ use harness::station::MOST_TRACKS;
 use harness::tally::Tally;
 use harness::tracks::sketch::Data;
 use harness::tracks::worn::{self, LONGEST};
-use harness::tracks::{self, random, Track};
+use harness::tracks::{self, letters, random, Track};
 
 /// Images, each by the kind of its track.
 type Image = fn(&mut Rng, Track) -> Vec<u8>;
 
-const IMAGES: [(&str, Image); 10] = [
+const IMAGES: [(&str, Image); 11] = [
     ("clean tracks", |rng, track| track.random(rng).0),
+    ("tracks with records of other stations", letters::mixed),
     ("tracks with cells turned over", worn::turned),
     ("spoilt tracks", worn::spoilt),
     ("shifted tracks", worn::shifted),
@@ -124,7 +125,7 @@ fn two_passes(rng: &mut Rng) -> Vec<Tally> {
     let mut tallies = [("read", "worn tracks captured twice"), ("pick", "sectors of worn tracks captured twice")]
         .map(|(subject, kind)| Tally::new(subject, kind));
     let track = tracks::any(rng);
-    let (image, ..) = track.random(rng);
+    let image = letters::mixed(rng, track);
     let mut pass = || {
         let call = read::Call::new(track, worn::wear(rng, &image));
         read::compare(&mut tallies[0], rng, &call)

@@ -2,6 +2,7 @@
 use crate::Vector;
 use harness::files::{joined, pairs, Contents};
 use harness::rng::Rng;
+use harness::tally::met::ANSWERS;
 use harness::tracks::{Track, FM, MFM};
 
 /// The other side of cylinder 0.
@@ -14,7 +15,8 @@ const LONGEST: Track = Track { layout: 3, cylinder: 74, side: 1 };
 pub fn all() -> Vec<Vector> {
     let rng = &mut Rng::new(2027);
     let groups = [right(rng), cut(rng), counts(rng), lists(rng), answers(rng), data(rng), left_over(rng)];
-    groups.into_iter().flatten().collect()
+    // what came later stands behind all that was there, which so keeps its numbers
+    groups.into_iter().flatten().chain(letters(rng)).collect()
 }
 
 fn vector(shows: &str, input: &[u8]) -> Vector {
@@ -47,7 +49,7 @@ fn right(rng: &mut Rng) -> Vec<Vector> {
         file("layout 1 on cylinder 0, control records", &Contents::answered(rng, &[SECOND], second)),
         file("layout 1 on cylinder 5, three sectors read", &few(rng, MFM).labelled(b"FEW")),
         file("layout 2, the last sector read", &Contents::answered(rng, &[LONGER], third)),
-        file("layout 3, each answer once", &Contents::answered(rng, &[LONGEST], each)),
+        file("layout 3, each answer of 01 once", &Contents::answered(rng, &[LONGEST], each)),
         file("layouts 0, 1 and 3", &Contents::answered(rng, &neighbours, mixed).labelled(b"THREE TRACKS")),
         file("150 tracks, no sector read", &Contents::all(rng, &whole(3), 21).labelled(b"ALL TRACKS")),
         file("150 tracks with the most answers, the last sector read", &Contents::answered(rng, &whole(1), last)),
@@ -153,5 +155,30 @@ fn left_over(rng: &mut Rng) -> Vec<Vector> {
         vector("a byte left over", &[&one[..], &[0]].concat()),
         vector("nothing but counts, and a byte", &[0; 17]),
         vector("two files", &[&other[..], &one].concat()),
+    ]
+}
+
+/// 02, request 04: a 3 comes with bytes and a 27 without; on which cylinder they stand nobody asks, nor what the bytes are.
+fn letters(rng: &mut Rng) -> Vec<Vector> {
+    let tracks = [FM, LONGEST];
+    let on_both = |first, last| [vec![26; 25], vec![first, last], vec![21; 7]].concat();
+    let mut as_read = Contents::answered(rng, &tracks, on_both(27, 3));
+    as_read.data.fill(0);
+    as_read.data[0] = b'F';
+    let each = [&ANSWERS[..], &[3; 5]].concat();
+    let mut last = vec![27; 3_900];
+    last[3_899] = 3;
+    let without = |answer| Contents { data: vec![], answers: on_both(26, answer), ..as_read.clone() };
+    vec![
+        file("27 on cylinder 0 and 3 on cylinder 74, which is F and zeros", &as_read),
+        file("3 on cylinder 0, any bytes, and 27 on cylinder 74", &Contents::answered(rng, &tracks, on_both(3, 27))),
+        file("layout 2, each answer", &Contents::answered(rng, &[LONGER], each)),
+        file("layout 1, all sectors 3", &Contents::all(rng, &[MFM], 3).labelled(b"PLANNED DEFECTS")),
+        file("150 tracks with the most answers, all 27 but the last, 3", &Contents::answered(rng, &whole(1), last)),
+        file("a 3 without its data", &without(3)),
+        file("a 27 with data", &Contents { answers: on_both(26, 27), ..as_read.clone() }),
+        file("an answer 4", &without(4)),
+        file("an answer 4, with data", &Contents { answers: on_both(26, 4), ..as_read.clone() }),
+        file("an answer 28", &without(28)),
     ]
 }

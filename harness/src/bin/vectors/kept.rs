@@ -1,5 +1,5 @@
 //! The kept vectors. They are the same whenever they are written.
-use crate::Vector;
+use crate::{letters, Vector};
 use harness::rng::Rng;
 use harness::tracks::damage::{damage, false_beginnings, image_of, shifted};
 use harness::tracks::sketch::*;
@@ -12,8 +12,19 @@ const TRACKS: [Track; 4] =
 
 pub fn all() -> Vec<Vector> {
     let rng = &mut Rng::new(2026);
-    let groups =
-        [refusals(), lengths(rng), clean(rng), traps(), shifts(rng), worn(rng), cuts(rng), others(rng), noise(rng)];
+    let groups = [
+        refusals(),
+        lengths(rng),
+        clean(rng),
+        traps(),
+        shifts(rng),
+        worn(rng),
+        cuts(rng),
+        others(rng),
+        noise(rng),
+        // what came later stands behind all that was there, which so keeps its numbers
+        letters::all(),
+    ];
     groups.into_iter().flatten().collect()
 }
 
@@ -22,7 +33,7 @@ fn vector(shows: &str, input: &[u8]) -> Vector {
 }
 
 /// The track's three bytes before an image.
-fn read(shows: &str, track: Track, image: &[u8]) -> Vector {
+pub fn read(shows: &str, track: Track, image: &[u8]) -> Vector {
     vector(&format!("{shows} ({track:?})"), &track.input(image))
 }
 
@@ -43,8 +54,8 @@ fn refusals() -> Vec<Vector> {
 }
 
 fn lengths(rng: &mut Rng) -> Vec<Vector> {
-    let (track, (fm, ..)) = (TRACKS[3], FM.random(rng));
-    let longest = [track.random(rng).0, vec![0x92; 24_576 - 20_832]].concat();
+    let (track, (fm, ..)) = (TRACKS[3], FM.plain(rng));
+    let longest = [track.plain(rng).0, vec![0x92; 24_576 - 20_832]].concat();
     let longer = [&longest[..], &[0x92]].concat();
     vec![
         read("24,576 bytes are read", track, &longest),
@@ -56,24 +67,27 @@ fn lengths(rng: &mut Rng) -> Vec<Vector> {
 
 fn clean(rng: &mut Rng) -> Vec<Vector> {
     let tracks = TRACKS.into_iter().chain([Track { layout: 1, cylinder: 0, side: 1 }]);
-    tracks.map(|track| read("as formatted, data and control marks", track, &track.random(rng).0)).collect()
+    tracks.map(|track| read("as formatted, data and control marks", track, &track.plain(rng).0)).collect()
 }
 
 /// The traps: some in both modes, the others in one and the other by turns.
 fn traps() -> Vec<Vector> {
     let (mut both, mut others) = (Vec::new(), Vec::new());
-    for trap in traps::all() {
+    for trap in traps::of_01() {
         if ["A3", "B1", "B2"].contains(&trap.name) { &mut both } else { &mut others }.push(trap);
     }
     let by_turns = others.chunks(2).zip([0, 1].into_iter().cycle()).map(|(modes, turn)| &modes[turn]);
-    let written = |trap: &Trap| read(&format!("{}: {}", trap.name, trap.shows), trap.track, &trap.image);
-    both.iter().chain(by_turns).map(written).collect()
+    both.iter().chain(by_turns).map(trap).collect()
+}
+
+pub fn trap(trap: &Trap) -> Vector {
+    read(&format!("{}: {}", trap.name, trap.shows), trap.track, &trap.image)
 }
 
 fn shifts(rng: &mut Rng) -> Vec<Vector> {
     let tracks = [MFM, FM, TRACKS[2], FM, TRACKS[3], FM, MFM];
     let shift = |(by, track): (usize, Track)| {
-        let (image, ..) = track.random(rng);
+        let (image, ..) = track.plain(rng);
         read(&format!("the whole track shifted by {by} of 8 cells"), track, &shifted(rng, &image, by))
     };
     (1..).zip(tracks).map(shift).collect()
@@ -81,7 +95,7 @@ fn shifts(rng: &mut Rng) -> Vec<Vector> {
 
 fn worn(rng: &mut Rng) -> Vec<Vector> {
     let wear = |track: Track| {
-        let mut cells = cells_of(&track.random(rng).0);
+        let mut cells = cells_of(&track.plain(rng).0);
         (0..10).for_each(|_| damage(rng, &mut cells));
         cells.truncate(8 * 24_576);
         read("cells turned over, lost, put in and doubled", track, &image_of(&cells))
@@ -91,7 +105,7 @@ fn worn(rng: &mut Rng) -> Vec<Vector> {
 
 fn cuts(rng: &mut Rng) -> Vec<Vector> {
     let mut cut = |shows: &str, track: Track, end: fn((usize, usize)) -> usize| {
-        let image = track.random(rng).0;
+        let image = track.plain(rng).0;
         read(shows, track, &image[..end(track.places(5))])
     };
     vec![
@@ -103,9 +117,9 @@ fn cuts(rng: &mut Rng) -> Vec<Vector> {
 }
 
 fn others(rng: &mut Rng) -> Vec<Vector> {
-    let (track, (fm, ..)) = (TRACKS[2], FM.random(rng));
-    let (image, ..) = track.random(rng);
-    let mut open = MFM.random(rng).0;
+    let (track, (fm, ..)) = (TRACKS[2], FM.plain(rng));
+    let (image, ..) = track.plain(rng);
+    let mut open = MFM.plain(rng).0;
     // the first steps of a rewrite: the open mark, and some new bytes
     let (_, mark) = MFM.places(9);
     open[mark + 7] = 0x49;
@@ -116,8 +130,8 @@ fn others(rng: &mut Rng) -> Vec<Vector> {
         read("MFM cells read in FM", FM, &image[..4_000]),
         read("two turns in one capture: all 22", FM, &fm.repeat(2)),
         read("a rewrite of sector 9 cut off: 25", MFM, &open),
-        read("random fields", FM, &random::fields(rng, FM)),
-        read("random fields", MFM, &random::fields(rng, MFM)),
+        read("random fields", FM, &random::plain_fields(rng, FM)),
+        read("random fields", MFM, &random::plain_fields(rng, MFM)),
     ]
 }
 

@@ -4,6 +4,7 @@
 //! files of read cartridges, with what the reading answers in its INDEX.
 mod files;
 mod kept;
+mod letters;
 mod runs;
 mod samples;
 

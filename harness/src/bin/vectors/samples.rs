@@ -4,6 +4,8 @@ use harness::reference::read::read;
 use harness::reference::records::has_bytes;
 use harness::station::Reading;
 use harness::tracks::damage::turn;
+use harness::tracks::letters::lay;
+use harness::tracks::sketch::Control;
 use harness::tracks::{Track, FM};
 
 const TRACK: Track = Track { layout: 3, cylinder: 5, side: 1 };
@@ -20,6 +22,8 @@ pub fn all() -> Vec<(&'static str, Vec<u8>)> {
         ("other-cylinder.in", Track { cylinder: 6, ..TRACK }.input(&image)),
         ("open.in", TRACK.input(&open(&image))),
         ("first-track.in", FM.input(&first_track())),
+        ("defect.in", TRACK.input(&defect())),
+        ("forbidden.in", FM.input(&forbidden())),
     ]
 }
 
@@ -67,6 +71,40 @@ fn open(image: &[u8]) -> Vec<u8> {
     open
 }
 
+/// The program on a disk with bad spots under sectors 3 and 6: these are control records with F, and it goes on behind them.
+/// At 3 the EDC is right all the same, at 6 the spot has spoilt a cell of the block.
+fn defect() -> Vec<u8> {
+    let (text, size) = (program(), TRACK.layout().size);
+    let (mut marks, mut rest) = ([0xFB; 8], text.chunks(size));
+    let mut data = Vec::new();
+    for sector in 1..=marks.len() {
+        if [3, 6].contains(&sector) {
+            marks[sector - 1] = 0xF8;
+            data.extend(padded("F", size).bytes());
+        } else {
+            data.extend(rest.next().expect("the program is as long as the track"));
+        }
+    }
+    let mut image = TRACK.formatted(&data, &marks);
+    turn(&mut image, 8 * (TRACK.places(6).1 + 8 + 2 * 300) + 7);
+    image
+}
+
+/// The first track with two control records that some other station wrote over its own, with right EDCs: one with F, since it
+/// took cylinder 0 for any other, and one with the letter of a label.
+fn forbidden() -> Vec<u8> {
+    let mut image = first_track();
+    for (sector, text) in [(20, "F"), (24, "HDR1UNUSED24")] {
+        lay(&mut image, FM, sector, Control, padded(text, FM.layout().size).as_bytes(), true);
+    }
+    image
+}
+
+/// A text, and spaces up to a sector's length.
+fn padded(text: &str, size: usize) -> String {
+    format!("{text:<size$}")
+}
+
 /// Cylinder 0, side 0, with text in some sectors; the last eight are control records, which begin with D.
 fn first_track() -> Vec<u8> {
     let text = |sector: usize| match sector {
@@ -97,7 +135,7 @@ fn labels(track: Track, data: usize, text: impl Fn(usize) -> String) -> Vec<u8> 
     let layout = track.layout();
     let mut marks = vec![0xFB; layout.sectors];
     marks[data..].fill(0xF8);
-    let sectors = (1..=layout.sectors).map(|sector| format!("{:<width$}", text(sector), width = layout.size));
+    let sectors = (1..=layout.sectors).map(|sector| padded(&text(sector), layout.size));
     track.formatted(&sectors.collect::<String>().into_bytes(), &marks)
 }
 

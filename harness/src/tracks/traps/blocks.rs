@@ -1,7 +1,7 @@
 //! What belongs to a block, and which answer comes before which.
 use super::super::sketch::*;
 use super::Mark::{First, Second};
-use super::{in_both, Trap};
+use super::{in_both, of_control, Trap};
 use crate::reference::coding::Mode;
 
 pub fn all() -> Vec<Trap> {
@@ -90,8 +90,9 @@ fn past_the_end() -> Vec<Trap> {
         Trap::new("B12", "one cell of the block's EDC is missing", &sketch).answers(&[(2, 1, First), (1, 24, Second)])
     });
     let exact = in_both(|start| {
+        let answer = of_control(start.track);
         let sketch = start.sector(2).identifier(1).gap(11).block(Control, 1);
-        Trap::new("B12", "the block's EDC ends the image", &sketch).answers(&[(2, 1, First), (1, 2, Second)])
+        Trap::new("B12", "the block's EDC ends the image", &sketch).answers(&[(2, 1, First), (1, answer, Second)])
     });
     [hidden, one_cell, exact].into_iter().flatten().collect()
 }

@@ -1,6 +1,7 @@
-//! Traps that the papers lay for a reader: small tracks, each with the outcome that 01 wants, worked out by hand.
+//! Traps that the papers lay for a reader: small tracks, each with the outcome that 01 and 02 want, worked out by hand.
 mod blocks;
 mod identifiers;
+mod letters;
 mod searches;
 
 use super::sketch::{contents, Sketch};
@@ -30,7 +31,17 @@ pub struct Trap {
 
 /// All of them.
 pub fn all() -> Vec<Trap> {
+    [of_01(), of_letters()].into_iter().flatten().collect()
+}
+
+/// Those that are in 01 already.
+pub fn of_01() -> Vec<Trap> {
     [searches::all(), identifiers::all(), blocks::all()].into_iter().flatten().collect()
+}
+
+/// Those of 02, request 04, each on all tracks that have it, one after the other.
+pub fn of_letters() -> Vec<Trap> {
+    letters::all()
 }
 
 impl Trap {
@@ -51,13 +62,19 @@ impl Trap {
     }
 
     /// Sectors with their answers and the track's data, control or open mark that is theirs: its first, its second.
-    /// Where the answer is 1 or 2, the slot holds the sector's own contents.
+    /// Where the answer is 1 or 2, the slot holds the sector's own contents; where it is 3, F and zeros.
     fn answers(mut self, answers: &[(u8, u32, Mark)]) -> Trap {
         for &(sector, answer, mark) in answers {
             self.reading.records[usize::from(sector) - 1] = at(answer, self.blocks[mark as usize]);
-            if answer <= 2 {
-                let bytes = contents(self.track, sector);
-                self = self.holds(sector, &bytes);
+            let mut bytes = contents(self.track, sector);
+            match answer {
+                1 | 2 => self = self.holds(sector, &bytes),
+                3 => {
+                    bytes.fill(0);
+                    bytes[0] = b'F';
+                    self = self.holds(sector, &bytes);
+                }
+                _ => (),
             }
         }
         self
@@ -73,6 +90,15 @@ impl Trap {
     fn counts(mut self, bad: u32, foreign: u32) -> Trap {
         self.reading.counts = [bad, foreign];
         self
+    }
+}
+
+/// The answer of a right control record with `contents`, whose first byte is Z: cylinder 0 takes D alone.
+fn of_control(track: Track) -> u32 {
+    if track.cylinder == 0 {
+        27
+    } else {
+        2
     }
 }
 

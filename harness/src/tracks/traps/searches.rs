@@ -1,7 +1,7 @@
 //! What is a mark, where it may begin, and from where on it is looked for.
 use super::super::sketch::*;
 use super::Mark::{First, Second};
-use super::{in_both, Trap, FM, MFM};
+use super::{in_both, of_control, Trap, FM, MFM};
 use crate::reference::coding::Mode;
 
 pub fn all() -> Vec<Trap> {
@@ -80,9 +80,10 @@ fn distances() -> Vec<Trap> {
         Trap::new("B2", "a data mark at distance 0 is found", &sketch).answers(&[(1, 1, First)])
     });
     let last = in_both(|start| {
-        let (window, gap) = to_the_window(&start);
+        let ((window, gap), answer) = (to_the_window(&start), of_control(start.track));
         let sketch = start.identifier(1).gap(gap).block(Control, 1).gap(4);
-        Trap::new("B2", &format!("a control mark at distance {window} is found"), &sketch).answers(&[(1, 2, First)])
+        let shows = format!("a control mark at distance {window} is found");
+        Trap::new("B2", &shows, &sketch).answers(&[(1, answer, First)])
     });
     let past = in_both(|start| {
         let (window, gap) = to_the_window(&start);

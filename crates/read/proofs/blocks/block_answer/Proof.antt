@@ -1,8 +1,7 @@
--- `block_answer` meets its contract: the mark decides, and then the EDC.
-use mathlib.Core.Path.{refl, ap}
+-- `block_answer` meets its contract: the mark decides, and then its record's first byte and EDC.
+use mathlib.Core.Path.{ap}
 use Prim.Native.Nat.{ℕ, _*_}
 use Rattle.marks.specs.declared.Mark.the-variants as marks
-use Rattle.answers.specs.declared.Answer.the-variants.{Data, Control}
 use Rattle.read.proofs.Answering.{is-data, is-control, block-open, block-decided}
 use borrow.Author.Needs.{needs}
 use Rattle.read.proofs.blocks.block_answer.Statement.{statement}
@@ -30,8 +29,8 @@ returns : tie.Need-returns
 returns c =
     let asked = c .before .before .before .before in
     let wide = asked .before .before in
-    block-decided _ _ _ _ marks.Data Data _ _ (ap (λ (k : ℕ). 16 * k) (wide .mark-bytes .ensures .0)) (wide .before .before .before .before .pre .2)
-    (is-data _ _ _ _ _ (asked .before .stands .ensures) (asked .if1 .taken)) (λ size bytes. refl) (c .before .before .checked .ensures)
+    block-decided _ _ _ _ marks.Data _ _ (ap (λ (k : ℕ). 16 * k) (wide .mark-bytes .ensures .0)) (wide .before .before .before .before .pre .2)
+    (is-data _ _ _ _ _ (asked .before .stands .ensures) (asked .if1 .taken)) (c .before .before .checked .ensures)
 
 stands-requires-2 : tie.Need-stands-requires-2
 stands-requires-2 c κs = search needs
@@ -47,8 +46,8 @@ returns-2 c =
     let asked = c .before .before .before .before in
     let first = asked .before .before in
     let wide = first .before .before in
-    block-decided _ _ _ _ marks.Control Control _ _ (ap (λ (k : ℕ). 16 * k) (wide .mark-bytes .ensures .0)) (wide .before .before .before .before .pre .2)
-    (is-control _ _ _ _ _ (first .before .stands .ensures) _ (asked .before .stands2 .ensures) (asked .if2 .taken)) (λ size bytes. refl)
+    block-decided _ _ _ _ marks.Control _ _ (ap (λ (k : ℕ). 16 * k) (wide .mark-bytes .ensures .0)) (wide .before .before .before .before .pre .2)
+    (is-control _ _ _ _ _ (first .before .stands .ensures) _ (asked .before .stands2 .ensures) (asked .if2 .taken))
     (c .before .before .checked2 .ensures)
 
 refused-requires : tie.Need-refused-requires

@@ -48,7 +48,7 @@ returns c =
     let a = begun .args in
     let h = slot-room (a .track .layout .size) (a .track .layout .sectors) (a .sector) (begun .pre .2) (begun .pre .3) in
     let e = c .before .before .next-record .ensures in
-    (e .0, slot-put _ _ _ _ _ _ _ _ (e .1) (omega (arith, begun .pre .5)))
+    (e .0, slot-put _ _ _ (begun .pre .1 .2) _ _ _ _ _ (e .1) (omega (arith, begun .pre .5)))
 
 pub enter-spec : {M : Type 1} → statement M
 enter-spec =

@@ -6,11 +6,11 @@ use native.Mathlib.Omega.{arith}
 use denote.Ref.{now}
 use lib.ListN.{length, set, length-replicate}
 use Rattle.cells.specs.Cells.{cell}
-use Rattle.layouts.specs.Layouts.{mostSectors}
 use Rattle.walk.specs.Walk.{walk}
 use Rattle.walk.specs.Outcomes.{met}
 use Rattle.walk.specs.Turns.{Placed}
 use Rattle.answers.specs.Answers.{unanswered}
+use Rattle.read.specs.Turns.{Modest}
 use Rattle.answers.specs.declared.Record.{Record}
 use Rattle.read.proofs.States.{State, state-start, state-left, state-bad, state-foreign, state-accepted, state-end}
 use Rattle.walk.proofs.Walking.{walk-past, walk-ends, walk-all, turn-left, turn-onward, turn-accepted}
@@ -33,13 +33,13 @@ known : (c : tie.After-event Inv-loop μ-loop)
     let started = c .before .before .before .before .before .before .before .before .before .before .before .before .before .args in
     let l = started .track .layout in
     let image = now (started .image) in
-    (1 ≤ sector) × (sector ≤ l .sectors) × Placed (l .mode) (cell image) (8 * length image) (c .event .given .0 .1 .0) × (l .sectors ≤ mostSectors)
+    (1 ≤ sector) × (sector ≤ l .sectors) × Placed (l .mode) (cell image) (8 * length image) (c .event .given .0 .1 .0) × Modest l
 known c =
     let ran = c .before .before .before .before .before in
     let started = ran .before .before .before .before .before .before .before .before in
     let few : 8 * length (now (started .args .image)) ≤ 2147483648 = omega (arith, started .pre .0) in
     let k = turn-accepted _ _ _ _ _ _ _ _ _ (ran .next-round .ensures) (c .before .before .before .round .given .1) (c .event .given .1) few in
-    (k .0, k .1, k .2, started .pre .1 .1)
+    (k .0, k .1, k .2, started .pre .1)
 
 unread-records-requires : tie.Need-unread-records-requires Inv-loop μ-loop
 unread-records-requires c κs = search needs
@@ -193,7 +193,7 @@ loop-again-4 c =
       o .1,
       omega (arith, o .0, l .inv .1),
       e .kept .1 .1 .1 .1 .1 .0 ∙ l .inv .2,
-      state-accepted _ _ _ (l .inv .3) _ _ unanswered left (k .3) (k .0) (k .1)
+      state-accepted _ _ _ (l .inv .3) _ _ unanswered left (k .3 .1) (k .3 .2) (k .0) (k .1)
           (ap (λ (r : Record). set (l .answers) at (record { answer = r .answer })) (e .ensures .0)) (ap (λ (r : Record). set (l .places) at (r .place)) (e .ensures .0))
           (e .ensures .1),
     )
