@@ -53,6 +53,10 @@ answerAmong (answer ∷ more) number = cond (eqb number (answerNumber answer)) a
 unfoldable pub answerOf : ℕ → Answer
 answerOf = answerAmong answers
 
+-- The number is an answer's (01, "How a track is read"; 02, Req 04): there is an answer that has it.
+abbrev pub isAnswer : ℕ → Bool
+isAnswer number = eqb (answerNumber (answerOf number)) number
+
 -- An answer carries the sector's bytes. (3 joins 1 and 2 in the file and the pick: 02, Req 04.)
 abbrev pub carries : Answer → Bool
 carries (Refused fault) = false

@@ -2,7 +2,7 @@
 use mathlib.Core.Bool.{Bool}
 use mathlib.Core.Path.{_≡_}
 use Prim.Native.Nat.{ℕ}
-use Rattle.answers.specs.Answers.{faultNumber, answerNumber, answerOf, carries, unreadRecords}
+use Rattle.answers.specs.Answers.{faultNumber, answerNumber, answerOf, isAnswer, carries, unreadRecords}
 use Rattle.answers.specs.Letters.{answerAfter}
 use Rattle.marks.specs.declared.Mark.{Mark}
 use Rattle.answers.specs.declared.Fault.{Fault}
@@ -22,6 +22,10 @@ IsAnswerNumber answer number = number ≡ answerNumber answer
 
 abbrev pub IsAnswerOf : ℕ → Answer → Type 0
 IsAnswerOf number answer = answer ≡ answerOf number
+
+-- `is_answer` answers whether the number is an answer's.
+abbrev pub TellsAnswer : ℕ → Bool → Type 0
+TellsAnswer number told = told ≡ isAnswer number
 
 -- `answer_after` answers what a whole block does after its mark.
 abbrev pub IsAnswerAfter : (cylinder : ℕ) → Mark → (first : ℕ) → (right : Bool) → Answer → Type 0

@@ -6,7 +6,7 @@ ghost use mathlib.Core.Path.{_≡_};
 ghost use lib.Dec.{eqb};
 ghost use Rattle.marks.specs.Marks.{markByte};
 ghost use Rattle.marks.specs.declared.Mark.the-variants.{Control};
-ghost use Rattle.answers.specs.Outcomes.{AreUnread, IsFaultNumber, IsAnswerNumber, IsAnswerOf, IsAnswerAfter, TellsCarrying};
+ghost use Rattle.answers.specs.Outcomes.{AreUnread, IsFaultNumber, IsAnswerNumber, IsAnswerOf, TellsAnswer, IsAnswerAfter, TellsCarrying};
 
 // Why a sector is refused, in the order of the papers' numbers 21 to 27.
 pub enum Fault {
@@ -119,6 +119,13 @@ pub fn answer_of(number: u32) -> Answer
         27 => Answer::Refused(Fault::ForbiddenLetter),
         _ => Answer::Refused(Fault::NoIdentifier),
     }
+}
+
+// Whether the number is an answer's: by what it lies between, so that the back end can look at many numbers at once.
+pub fn is_answer(number: u8) -> bool
+    ensures { λ r. ⌜ TellsAnswer number r ⌝ }
+{
+    ((1 <= number) & (number <= 3)) | ((21 <= number) & (number <= 27))
 }
 
 // Whether the answer carries the sector's bytes.

@@ -13,10 +13,10 @@ use Rattle.cells.proofs.Stores.{part-length}
 use Rattle.layouts.specs.declared.Layout.{Layout}
 use Rattle.layouts.specs.Layouts.{layoutOf}
 use Rattle.layouts.proofs.Layouts.{every-layout, sectors-few}
-use Rattle.answers.specs.Answers.{answerOf, carries}
+use Rattle.answers.specs.Answers.{answerOf, carries, isAnswer}
 use Rattle.file.specs.declared.Asked.{Asked}
 use Rattle.file.specs.declared.Asked.the-variants.{Asks, Wrong}
-use Rattle.file.specs.Contents.{Entry, entries, all, sectorsOf, isAnswer, carrying, carriedBytes}
+use Rattle.file.specs.Contents.{Entry, entries, all, sectorsOf, carrying, carriedBytes}
 use Rattle.file.specs.Turns.{answersAsk, carryingAsk}
 use Rattle.file.proofs.Asking.{asked-wrong, asked-known, entryAt, entries-next}
 

@@ -8,7 +8,8 @@ use borrow.Author.Tests.{eqb-true, ltb-false, not-false}
 use lib.ListN.{length}
 use Rattle.verdicts.specs.Tests.{passed, refusal}
 use Rattle.verdicts.proofs.Tests.{first-passed, passed-both}
-use Rattle.file.specs.Contents.{Content, trackWidth, entries, isTrackList, sectorsOf, all, isAnswer, carriedBytes}
+use Rattle.answers.specs.Answers.{isAnswer}
+use Rattle.file.specs.Contents.{Content, trackWidth, entries, isTrackList, sectorsOf, all, carriedBytes}
 use Rattle.file.specs.Outcomes.{Fits}
 use Rattle.file.specs.Refusals.{fitTests, roomTest, writeTests}
 use Rattle.file.specs.Sections.{encoded}

@@ -8,7 +8,7 @@ use lib.ListN.{length, take, drop}
 use Rattle.verdicts.specs.Tests.{refusal, by}
 use Rattle.layouts.specs.Layouts.{layoutOf}
 use Rattle.layouts.specs.Refusals.{trackTests}
-use Rattle.answers.specs.Answers.{answerNumber, answerOf, carries}
+use Rattle.answers.specs.Answers.{answerOf, carries}
 
 -- The bytes of the four sections (02, Req 03).
 pub record Content : Type 0 where
@@ -73,10 +73,6 @@ sectorsOf [] = 0
 sectorsOf (e ∷ more) = layoutOf (e .layout) .sectors + sectorsOf more
 
 -- ---- the answers
-
--- The number is an answer's (01, "How a track is read"): there is an answer that has it.
-abbrev pub isAnswer : ℕ → Bool
-isAnswer number = eqb (answerNumber (answerOf number)) number
 
 -- How many of these answers carry bytes.
 unfoldable pub carrying : List ℕ → ℕ

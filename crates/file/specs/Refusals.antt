@@ -6,10 +6,11 @@ use Prim.Native.Nat.{ℕ, _+_, _/_}
 use lib.Dec.{ltb, eqb}
 use lib.ListN.{length}
 use Rattle.verdicts.specs.Tests.{Test}
+use Rattle.answers.specs.Answers.{isAnswer}
 use Rattle.file.specs.declared.Refusal.{Refusal}
 use Rattle.file.specs.declared.Refusal.the-variants.{PastEnd, LabelOrTracks, AnswerBytes, DataCount, LeftOver, AreaLength}
 use Rattle.file.specs.declared.Sections.{Sections}
-use Rattle.file.specs.Contents.{Content, longestLabel, mostTracks, trackWidth, entries, isTrackList, sectorsOf, all, isAnswer, carriedBytes}
+use Rattle.file.specs.Contents.{Content, longestLabel, mostTracks, trackWidth, entries, isTrackList, sectorsOf, all, carriedBytes}
 use Rattle.file.specs.Sections.{countWidth, encoded, labelIn, tracksIn, answersIn, dataIn, end, held}
 
 -- The number of a refusal (02, Req 03).

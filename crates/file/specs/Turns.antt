@@ -6,10 +6,11 @@ use lib.Dec.{ltb}
 use lib.ListN.{length}
 use Rattle.verdicts.specs.Tests.{Test}
 use Rattle.layouts.specs.Layouts.{mostSectors}
+use Rattle.answers.specs.Answers.{isAnswer}
 use Rattle.file.specs.declared.Refusal.{Refusal}
 use Rattle.file.specs.declared.Asked.{Asked}
 use Rattle.file.specs.declared.Asked.the-variants.{Asks, Wrong}
-use Rattle.file.specs.Contents.{Content, Entry, longestLabel, mostTracks, trackWidth, all, isAnswer, isTrackList, entries, sectorsOf, carrying, carriedBytes}
+use Rattle.file.specs.Contents.{Content, Entry, longestLabel, mostTracks, trackWidth, all, isTrackList, entries, sectorsOf, carrying, carriedBytes}
 use Rattle.file.specs.Sections.{countWidth, countAt, sectionAt, end}
 use Rattle.file.specs.Refusals.{endTest, answersTest, numbersTest, dataTest, roomTest}
 

@@ -9,7 +9,7 @@ ghost use Prim.Native.Nat.{_+_, _*_, _≤_};
 ghost use lib.ListN.{length};
 ghost use Rattle.layouts.specs.Layouts.{layoutOf, mostSectors};
 ghost use Rattle.answers.specs.Answers.{answerOf, carries};
-ghost use Rattle.file.specs.Contents.{mostTracks, trackWidth, entries, isTrack, isAnswer, sectorsOf};
+ghost use Rattle.file.specs.Contents.{mostTracks, trackWidth, entries, isTrack, sectorsOf};
 ghost use Rattle.file.specs.Turns.{tracksAsk, answersAsk, carryingAsk};
 
 // Whether there is such a track, with this layout.
@@ -70,13 +70,6 @@ fn is_carrying(number: u8) -> bool
     answers::carries_bytes(answers::answer_of(number as u32))
 }
 
-// Whether the number is an answer's.
-fn is_answer(number: u8) -> bool
-    ensures { λ r. ⌜ r ≡ isAnswer number ⌝ }
-{
-    answers::answer_number(answers::answer_of(number as u32)) == number
-}
-
 // 1 where the answer of a number carries bytes, else 0.
 fn bearing(number: u8) -> u8
     ensures { λ r. ⌜ (r ≡ cond (carries (answerOf number)) 1 0) × (r ≤ 1) ⌝ }
@@ -98,7 +91,7 @@ fn carrying_asked(answers: &[u8]) -> Asked
     let mut i = 0;
     while i < answers.len() {
         let number = answers[i];
-        right = right & is_answer(number);
+        right = right & answers::is_answer(number);
         carrying += bearing(number);
         i += 1;
     }

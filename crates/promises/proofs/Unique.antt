@@ -16,7 +16,7 @@ use Rattle.calls.specs.declared.Refusal.{Refusal}
 use Rattle.marks.specs.Outcomes.{TellsBlock, IsString, AreMarkBytes, IsLastByte, IsLastBit, TellsStanding, IsRegisterAfter, IsMarkOf}
 use Rattle.marks.specs.declared.Mark.{Mark}
 use Rattle.search.specs.declared.Kinds.{Kinds}
-use Rattle.answers.specs.Outcomes.{AreUnread, IsFaultNumber, IsAnswerNumber, IsAnswerOf, IsAnswerAfter, TellsCarrying}
+use Rattle.answers.specs.Outcomes.{AreUnread, IsFaultNumber, IsAnswerNumber, IsAnswerOf, TellsAnswer, IsAnswerAfter, TellsCarrying}
 use Rattle.read.specs.Outcomes.{Reads}
 use Rattle.search.specs.Outcomes.{IsMarkAt, IsFirstMark}
 use Rattle.walk.specs.Outcomes.{IsRound}
@@ -189,6 +189,9 @@ answer-number answer = by-value _
 
 pub answer-of : (number : ℕ) → Unique (IsAnswerOf number)
 answer-of number = by-value _
+
+pub is-answer : (number : ℕ) → Unique (TellsAnswer number)
+is-answer number = by-value _
 
 pub answer-after : (cylinder : ℕ) (mark : Mark) (first : ℕ) (right : Bool) → Unique (IsAnswerAfter cylinder mark first right)
 answer-after cylinder mark first right = by-value _

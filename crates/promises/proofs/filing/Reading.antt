@@ -10,7 +10,8 @@ use lib.ListN.{length, drop, drop-of-length-le}
 use Rattle.cells.specs.Cells.{Bytes}
 use Rattle.verdicts.specs.Tests.{passed, refusal}
 use Rattle.verdicts.proofs.Tests.{passed-both, first-passed}
-use Rattle.file.specs.Contents.{Content, trackWidth, entries, isTrackList, sectorsOf, all, isAnswer, carriedBytes}
+use Rattle.answers.specs.Answers.{isAnswer}
+use Rattle.file.specs.Contents.{Content, trackWidth, entries, isTrackList, sectorsOf, all, carriedBytes}
 use Rattle.file.specs.Outcomes.{fileTests}
 use Rattle.file.specs.Refusals.{labelTests, tracksTests, answersTests, dataTests, headTests, wholeTests}
 use Rattle.file.specs.Sections.{counted, encoded, end, held, labelIn, tracksIn, answersIn, dataIn, sectionsIn, contentAt}

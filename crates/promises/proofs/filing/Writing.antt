@@ -9,7 +9,8 @@ use borrow.Author.Tests.{eq-eqb, le-ltb}
 use lib.ListN.{length, length-append}
 use Rattle.verdicts.specs.Tests.{Test, passed, refusal}
 use Rattle.verdicts.proofs.Tests.{append-passed}
-use Rattle.file.specs.Contents.{Content, longestLabel, mostTracks, trackWidth, entries, isTrackList, sectorsOf, all, isAnswer, carriedBytes}
+use Rattle.answers.specs.Answers.{isAnswer}
+use Rattle.file.specs.Contents.{Content, longestLabel, mostTracks, trackWidth, entries, isTrackList, sectorsOf, all, carriedBytes}
 use Rattle.file.specs.Outcomes.{fileTests, Fits}
 use Rattle.file.specs.Refusals.{endTest, leftTest, labelTests, tracksTests, answersTests, dataTests, headTests, wholeTests, fitTests}
 use Rattle.file.specs.Sections.{counted, encoded, end, held, labelIn, tracksIn, answersIn, dataIn, sectionsIn, contentAt}

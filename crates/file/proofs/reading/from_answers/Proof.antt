@@ -5,10 +5,11 @@ use mathlib.Core.List.{List}
 use Prim.Native.Nat.{ℕ, _*_}
 use native.Mathlib.Omega.{arith}
 use denote.Ref.{now}
+use Rattle.answers.specs.Answers.{isAnswer}
 use Rattle.file.specs.declared.Judged.the-variants as judged
 use Rattle.file.specs.declared.Refusal.the-variants.{AnswerBytes}
 use Rattle.file.specs.declared.Section.{Section}
-use Rattle.file.specs.Contents.{trackWidth, entries, sectorsOf, all, isAnswer, carriedBytes}
+use Rattle.file.specs.Contents.{trackWidth, entries, sectorsOf, all, carriedBytes}
 use Rattle.file.specs.Sections.{end, held, tracksIn, answersIn}
 use Rattle.file.proofs.Asking.{sectors-most}
 use Rattle.file.proofs.Carrying.{numbers-wrong, numbers-right}
