@@ -16,6 +16,8 @@ pub mod Calling
 pub mod Places
 -- the file of a read cartridge
 pub mod filing
+-- records with the letter F
+pub mod Letters
 -- the facts
 pub mod Facts
 -- each contract allows one outcome

@@ -14,6 +14,8 @@ pub mod Doors
 pub mod Places
 -- The file of a read cartridge (02, Req 03).
 pub mod Files
+-- Records with the letter F (02, Req 04).
+pub mod Letters
 -- The facts that 01 marks P, and what a contract settles.
 pub mod Facts
 pub mod Unique
