@@ -30,9 +30,9 @@ enum { BYTES = STATION_BYTES_1, AREA = STATION_SECTORS_1 * STATION_BYTES_1 };
 static uint8_t file[3 + STATION_LONGEST_IMAGE + 1], area[STATION_LONGEST_AREA], image[STATION_IMAGE_1];
 static uint8_t data[STATION_LONGEST_AREA], sent[STATION_LONGEST_FILE];
 
-/* Only 1 and 2 come with bytes; in every other case the slot is zeros, which must not be taken for data. */
-static int usable(uint32_t answer) {
-    return answer == STATION_ANSWER_DATA || answer == STATION_ANSWER_CONTROL;
+/* Only 1, 2 and 3 come with bytes, those of 3 being F and zeros; in every other case the slot is zeros, which must not be taken for data. */
+static int has_bytes(uint32_t answer) {
+    return answer == STATION_ANSWER_DATA || answer == STATION_ANSWER_CONTROL || answer == STATION_ANSWER_DEFECTIVE;
 }
 
 /* Says why where the file can't be read. */
@@ -68,7 +68,18 @@ static void show_refused(size_t sector, struct station_record record, uint32_t c
         uint32_t tenths = record.place * 3600 / cells_of_a_turn % 3600;
         printf(", %u.%u degrees round from the index hole", (unsigned)tenths / 10, (unsigned)tenths % 10);
     }
+    /* no scratch: the record is whole, but some station wrote what may not stand there */
+    if (record.answer == STATION_ANSWER_FORBIDDEN_LETTER)
+        printf("; not allowed on cylinder 0, report it");
     printf("\n");
+}
+
+static void show_sector(size_t sector, struct station_record record, const uint8_t *slot, uint32_t cells_of_a_turn) {
+    const char *means = record.answer == STATION_ANSWER_DEFECTIVE ? "is a planned defect, copy it as such" : "can be used";
+    if (has_bytes(record.answer))
+        printf("sector %u %s: answer %u, first byte %02X\n", (unsigned)sector, means, (unsigned)record.answer, slot[0]);
+    else
+        show_refused(sector, record, cells_of_a_turn);
 }
 
 /* All answers in a byte each, and in `data`, one after the other, the slots that come with bytes. Gives how many bytes these are. */
@@ -77,7 +88,7 @@ static size_t gather(const struct station_record *records, size_t sectors, size_
     for (sector = 1; sector <= sectors; sector++) {
         uint32_t answer = records[sector - 1].answer;
         answers[sector - 1] = (uint8_t)answer;
-        if (usable(answer)) {
+        if (has_bytes(answer)) {
             memcpy(data + length, area + (sector - 1) * bytes, bytes);
             length += bytes;
         }
@@ -116,14 +127,8 @@ static int show_captured(size_t length) {
     if (refused("the captured track", station_read(layout, cylinder, side, file + 3, length - 3, area, sectors * bytes, records, counts)))
         return 0;
     printf("captured: layout %u, cylinder %u, side %u\n", (unsigned)layout, (unsigned)cylinder, (unsigned)side);
-    for (sector = 1; sector <= sectors; sector++) {
-        const uint8_t *slot = area + (sector - 1) * bytes;
-        struct station_record record = records[sector - 1];
-        if (usable(record.answer))
-            printf("sector %u can be used: answer %u, first byte %02X\n", (unsigned)sector, (unsigned)record.answer, slot[0]);
-        else
-            show_refused(sector, record, 8 * LAYOUTS[layout].image);
-    }
+    for (sector = 1; sector <= sectors; sector++)
+        show_sector(sector, records[sector - 1], area + (sector - 1) * bytes, 8 * LAYOUTS[layout].image);
     printf("identifiers: %u with a wrong EDC, %u of other tracks\n", (unsigned)counts[0], (unsigned)counts[1]);
     return file_captured(records, sectors, bytes);
 }

@@ -16,6 +16,10 @@ mod station;
 
 use station::{Layout, Reading, Record, Sections, DATA_MARK, LAYOUTS, LONGEST_FILE, LONGEST_IMAGE, NO_PLACE};
 
+/// Answers to which a bench does something of its own: a planned defect, and on cylinder 0 a letter that may not stand there.
+const DEFECTIVE: u32 = 3;
+const FORBIDDEN_LETTER: u32 = 27;
+
 /// Why the program ends early.
 enum Failure {
     /// The library refused a call.
@@ -72,9 +76,10 @@ impl Track {
     }
 }
 
-/// Only 1 and 2 come with bytes; in every other case the slot is zeros, which must not be taken for data.
-fn usable(answer: u32) -> bool {
-    matches!(answer, 1 | 2)
+/// Only 1, 2 and 3 come with bytes, those of 3 being F and zeros; in every other case the slot is zeros, which must not be
+/// taken for data.
+fn has_bytes(answer: u32) -> bool {
+    matches!(answer, 1 | 2 | DEFECTIVE)
 }
 
 /// A sector that can't be used, with how far round its mark is, so that the disk can be turned to it. A capture may be
@@ -86,7 +91,26 @@ fn show_refused(out: &mut impl Write, sector: usize, record: Record, cells_of_a_
         let tenths = record.place * 3600 / cells_of_a_turn % 3600;
         write!(out, ", {}.{} degrees round from the index hole", tenths / 10, tenths % 10)?;
     }
+    // no scratch: the record is whole, but some station wrote what may not stand there
+    if record.answer == FORBIDDEN_LETTER {
+        write!(out, "; not allowed on cylinder 0, report it")?;
+    }
     writeln!(out)
+}
+
+fn show_sector(
+    out: &mut impl Write,
+    sector: usize,
+    record: Record,
+    slot: &[u8],
+    cells_of_a_turn: u32,
+) -> io::Result<()> {
+    let means = if record.answer == DEFECTIVE { "is a planned defect, copy it as such" } else { "can be used" };
+    if has_bytes(record.answer) {
+        writeln!(out, "sector {sector} {means}: answer {}, first byte {:02X}", record.answer, slot[0])
+    } else {
+        show_refused(out, sector, record, cells_of_a_turn)
+    }
 }
 
 /// What was read of the captured track, as a file for another bench: all answers, and one after the other the slots that
@@ -96,7 +120,7 @@ fn file_captured(out: &mut impl Write, track: Track, area: &[u8], records: &[Rec
     let entry = [track.cylinder as u8, track.side as u8, track.layout as u8];
     let answers: Vec<u8> = records.iter().map(|record| record.answer as u8).collect();
     let slots = area.chunks(track.sizes().bytes).zip(records);
-    let data = slots.filter(|(_, record)| usable(record.answer)).map(|(slot, _)| slot).collect::<Vec<_>>().concat();
+    let data = slots.filter(|(_, record)| has_bytes(record.answer)).map(|(slot, _)| slot).collect::<Vec<_>>().concat();
     let (mut sent, mut length) = (vec![0; LONGEST_FILE], [0]);
     served("the file", station::file_write(label, &entry, &answers, &data, &mut sent, &mut length))?;
     sent.truncate(length[0] as usize);
@@ -119,11 +143,7 @@ fn show_captured(out: &mut impl Write, track: Track, image: &[u8]) -> Result<(),
     writeln!(out, "captured: layout {}, cylinder {}, side {}", track.layout, track.cylinder, track.side)?;
     let sizes = track.sizes();
     for (sector, (slot, record)) in (1..).zip(area.chunks(sizes.bytes).zip(reading.records)) {
-        if usable(record.answer) {
-            writeln!(out, "sector {sector} can be used: answer {}, first byte {:02X}", record.answer, slot[0])?;
-        } else {
-            show_refused(out, sector, record, 8 * sizes.image as u32)?;
-        }
+        show_sector(out, sector, record, slot, 8 * sizes.image as u32)?;
     }
     let [bad, foreign] = reading.counts;
     writeln!(out, "identifiers: {bad} with a wrong EDC, {foreign} of other tracks")?;

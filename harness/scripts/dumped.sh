@@ -24,6 +24,14 @@ mkfifo "$work/fifo"
 try "a named pipe" 0 "$printed" "" eval 'cat "$sample" >"$work/fifo" & dump "$work/fifo"'
 { printf 'four' && cat "$sample"; } >"$work/offset"
 try "the standard input from where it stands" 0 "$printed" "" eval '{ dd bs=1 count=4 of=/dev/null 2>/dev/null; dump; } <"$work/offset"'
+try "planned defects" 0 <(printf 'track 5 1 3\n1 1\n2 1\n3 3\n4 1\n5 1\n6 3\n7 1\n8 1\nidents 0 0\n') "" dump "$root/samples/defect.in"
+try "forbidden letters" 0 <(
+    printf 'track 0 0 0\n'
+    for sector in {1..26}; do
+        case $sector in 20 | 24) echo $sector 27 ;; *) echo $sector $((sector < 19 ? 1 : 2)) ;; esac
+    done
+    printf 'idents 0 0\n'
+) "" dump "$root/samples/forbidden.in"
 : >"$work/empty"
 try "an empty file" 1 "$work/refused-1.out" "" dump "$work/empty"
 try "two bytes" 1 "$work/refused-1.out" "" eval 'printf "\3\5" | dump'

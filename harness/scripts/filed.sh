@@ -54,6 +54,13 @@ try "one called -f" 0 "$printed" "" eval 'cd "$work" && file -- -f'
 head -c 16 /dev/zero >"$work/counts"
 label_alone() { printf 'label "%s"\ntracks 0, sectors 0, data bytes 0\n' "$1"; }
 try "nothing but counts" 0 <(label_alone "") "" file "$work/counts"
+lettered() { # ANSWERS..: the file of a track of layout 3 with these answers, of which three have data
+    count 0 && count 1 && bytes 5 1 3 && count 8 && bytes "$@" && count 3072 && head -c 3072 /dev/zero
+}
+for answers in "3 27 21 26 1 27 27 3" "27 27 2 22 3 25 3 27"; do
+    try "planned defects and forbidden letters" 0 \
+        <(printf 'label ""\ncylinder 5 side 1 layout 3: %s\ntracks 1, sectors 8, data bytes 3072\n' "$answers") "" eval 'lettered $answers | file'
+done
 
 # every byte that a label can have, 64 at a time
 numbers() { printf '\\x%02x' $(seq "$1" "$2"); }
