@@ -14,7 +14,7 @@ use Rattle.answers.specs.declared.Answer.the-variants.{Data, Control, De
 abbrev pub letterF : ℕ
 letterF = 0x46
 
--- That is so: the mark is F8, the cylinder is one of 1 to 74, and the first data byte is F (02, Req 04).
+-- That is so: the mark is F8, the cylinder is not 0, and so one of 1 to 74, and the first data byte is F (02, Req 04).
 abbrev pub isDefective : (cylinder mark first : ℕ) → Bool
 isDefective cylinder mark first = eqb mark (markByte marks.Control) && not (eqb cylinder 0) && eqb first letterF
 
