@@ -2,8 +2,7 @@
 use mathlib.Core.Path.{_≡_, refl}
 use mathlib.Core.Bool.{Bool, true, false, cond, not, _&&_}
 use mathlib.Core.List.{List, [], _∷_}
-use mathlib.Core.Logic.{_⊎_, inl, inr}
-use Prim.Native.Nat.{ℕ, _*_, _≤_}
+use Prim.Native.Nat.{ℕ, _*_}
 use native.Mathlib.Omega.{arith}
 use borrow.Author.Tests.{eq-eqb, ne-eqb, eqb-true}
 use lib.Dec.{eqb, leb}
@@ -42,21 +41,18 @@ use Rattle.promises.proofs.Doors.{accepted-reads, accepted-verdict, acc
 -- ---- one block
 
 -- Of the other answers nothing is said.
-unsaid : {cylinder size : ℕ} {slot : List ℕ} (number : ℕ) → (number ≡ 1) ⊎ ((21 ≤ number) × (number ≤ 26)) → Lettered cylinder size number slot
-unsaid number h =
-    record { defective = λ e. absurd (three h e); forbidden = λ e. absurd (twenty-seven h e); zeroth = λ e. absurd (two h e); elsewhere = λ e. absurd (two h e) }
+unsaid : {cylinder size : ℕ} {slot : List ℕ} (number : ℕ) → eqb number 3 ≡ false → eqb number 27 ≡ false → eqb number 2 ≡ false
+    → Lettered cylinder size number slot
+unsaid number a b c =
+    record {
+      defective = λ e. absurd (other 3 a e);
+      forbidden = λ e. absurd (other 27 b e);
+      zeroth = λ e. absurd (other 2 c e);
+      elsewhere = λ e. absurd (other 2 c e);
+    }
   where
-    three : (number ≡ 1) ⊎ ((21 ≤ number) × (number ≤ 26)) → number ≡ 3 → ⊥
-    three (inl h) e = absurd (omega arith)
-    three (inr h) e = absurd (omega (arith, h .0))
-
-    twenty-seven : (number ≡ 1) ⊎ ((21 ≤ number) × (number ≤ 26)) → number ≡ 27 → ⊥
-    twenty-seven (inl h) e = absurd (omega arith)
-    twenty-seven (inr h) e = absurd (omega (arith, h .1))
-
-    two : (number ≡ 1) ⊎ ((21 ≤ number) × (number ≤ 26)) → number ≡ 2 → ⊥
-    two (inl h) e = absurd (omega arith)
-    two (inr h) e = absurd (omega (arith, h .0))
+    other : (n : ℕ) → eqb number n ≡ false → number ≡ n → ⊥
+    other n d e = let same : eqb number n ≡ true = eq-eqb number n e in clash cc
 
 -- What the tests say of a block's cylinder and letter: k where its mark is F8, z on cylinder 0, f where its first byte is F, d where it is D.
 defective-elsewhere : (k z f : Bool) → k && not z && f ≡ true → z ≡ true → ⊥
@@ -93,7 +89,7 @@ letter-decides cylinder size mark bytes right =
       zeroth = λ n. absurd (omega (arith, n));
       elsewhere = λ n. absurd (omega (arith, n));
     })
-    (unsaid 26 (inr (omega arith, omega arith)))
+    (unsaid 26 refl refl refl)
     (λ e.
     record {
       defective = λ n. absurd (omega (arith, n));
@@ -108,7 +104,7 @@ letter-decides cylinder size mark bytes right =
       zeroth = λ n q. eqb-true (getD bytes 0 0) letterD (control-zeroth z k d e h (eq-eqb cylinder 0 q));
       elsewhere = λ n q r. control-elsewhere k z f a h (ne-eqb cylinder 0 q) (eq-eqb (getD bytes 0 0) letterF r);
     })
-    (λ h. unsaid 1 (inl refl))
+    (λ h. unsaid 1 refl refl refl)
   where
     k : Bool
     k = eqb (markByte mark) (markByte marks.Control)
@@ -138,7 +134,7 @@ module _ (t : Track) (image : List ℕ) where
   block-lettered : (m : ℕ) → Said (blockAnswer t c n m) m
   unfolding blockAfter
   block-lettered m =
-      block-cases t c n (λ (a : Answer). Said a m) m (λ o. unsaid 25 (inr (omega arith, omega arith)))
+      block-cases t c n (λ (a : Answer). Said a m) m (λ o. unsaid 25 refl refl refl)
       (λ k. letter-decides (t .cylinder) (t .layout .size) marks.Control (blockBytes t c n m) _)
       (λ o k. letter-decides (t .cylinder) (t .layout .size) marks.Data (blockBytes t c n m) _)
 
@@ -149,12 +145,12 @@ module _ (t : Track) (image : List ℕ) where
       go : (b : Bool) (bs : List Block) → Lettered (t .cylinder) (t .layout .size)
           (answerNumber (cond b (recordFor t c n bs) (refused (t .layout .size) NoIdentifier noPlace) .known .answer))
           (cond b (recordFor t c n bs) (refused (t .layout .size) NoIdentifier noPlace) .slot)
-      go false bs = unsaid 21 (inr (omega arith, omega arith))
-      go true [] = unsaid 21 (inr (omega arith, omega arith))
-      go true (Missing ∷ []) = unsaid 23 (inr (omega arith, omega arith))
-      go true (Beyond m ∷ []) = unsaid 24 (inr (omega arith, omega arith))
+      go false bs = unsaid 21 refl refl refl
+      go true [] = unsaid 21 refl refl refl
+      go true (Missing ∷ []) = unsaid 23 refl refl refl
+      go true (Beyond m ∷ []) = unsaid 24 refl refl refl
       go true (Within m ∷ []) = block-lettered m
-      go true (x ∷ y ∷ bs) = unsaid 22 (inr (omega arith, omega arith))
+      go true (x ∷ y ∷ bs) = unsaid 22 refl refl refl
 
 -- ---- in the words of the calls
 
