@@ -1,56 +1,13 @@
 // Prints what a file of a read cartridge holds, from the standard input: its label, a line for each track with the answers of its sectors, and how much
 // there is of each. The data are counted only, so a file may be longer than what is kept of it.
-// What the system answers to a read and a write is tested by bin/test-scripts; no proof speaks of it.
 use file::Judged;
 use file::Section;
 use file::Sections;
 use file::TRACK_WIDTH;
-use libc::STDERR_FILENO;
-use libc::STDIN_FILENO;
 use libc::STDOUT_FILENO;
+use streams::Input;
 ghost use Prim.Native.Nat.{_+_, _≤_, max};
 ghost use lib.ListN.{length};
-ghost use Rattle.io.specs.Counts.{Counts};
-
-// What came of the input.
-struct Input {
-    // how many bytes
-    end: usize,
-    // whether a read failed behind them; else they are all there is, or all that is asked for
-    broken: bool,
-}
-
-// One read into the buffer.
-fn read_some(buffer: &mut [u8]) -> Input
-    ensures { λ r. ⌜ Counts (r .«end») (now (buffer .exit)) ⌝ }
-{
-    let got = libc::read(STDIN_FILENO, buffer);
-    Input {
-        end: io::count(got, buffer),
-        broken: got < 0,
-    }
-}
-
-// Reads until the buffer is full, the input ends or a read fails.
-fn read_input(buffer: &mut [u8]) -> Input
-    ensures { λ r. ⌜ Counts (r .«end») (now (buffer .exit)) ⌝ }
-{
-    let mut end = 0;
-    while end < buffer.len() {
-        let more = read_some(&mut buffer[end..]);
-        if more.end == 0 {
-            return Input {
-                end: end,
-                broken: more.broken,
-            };
-        }
-        end += more.end;
-    }
-    Input {
-        end: end,
-        broken: false,
-    }
-}
 
 // Reads on behind the bytes that have come, and only counts them: until there is a byte more than the data, the input ends or a read fails. How many
 // are left over is not asked, so that an input without an end is refused too.
@@ -59,7 +16,7 @@ fn read_rest(start: usize, data: Section) -> Input {
     let wanted = data.place as usize + data.count as usize;
     let mut end = start;
     while end <= wanted {
-        let more = read_some(&mut buffer);
+        let more = streams::read_some(&mut buffer);
         if more.end == 0 {
             return Input {
                 end: end,
@@ -214,33 +171,19 @@ fn print_judged(file: &[u8], judged: Judged) -> bool {
     }
 }
 
-// Says why a read failed, and how far it came.
-fn tell_broken(end: usize) {
-    os::fail(b"cartridge-file: the input could not be read");
-    io::write_all(STDERR_FILENO, b"cartridge-file: bytes read before that: ");
-    io::print_decimal(STDERR_FILENO, end as u64);
-    io::write_all(STDERR_FILENO, b"\n");
-}
-
-// Says so where some of the output is lost.
-fn tell_lost(printed: bool) {
-    if !printed {
-        os::fail(b"cartridge-file: the output could not be written");
-    }
-}
-
 fn main() {
     // longer than any head, which is all that is kept of a file that is longer still
     let mut buffer = io::large_buffer();
-    let mut input = read_input(&mut buffer);
+    let mut input = streams::read_input(&mut buffer);
     let end = input.end;
     let head = file::head(&buffer[..end]);
     if end == buffer.len() {
         input = count_all(head, end);
     }
     if input.broken {
-        tell_broken(input.end);
+        streams::tell_broken(b"cartridge-file", input.end);
         return;
     }
-    tell_lost(print_judged(&buffer[..end], file::whole(head, input.end)));
+    let printed = print_judged(&buffer[..end], file::whole(head, input.end));
+    streams::tell_lost(b"cartridge-file", printed);
 }

@@ -6,8 +6,8 @@ use lib.ListN.{length}
 use lib.Seq.{length-take-le}
 use borrow.Author.Needs.{needs}
 use Rattle.io.specs.Counts.{Counts}
-use Rattle.dump.proofs.read_input.Statement.{statement}
-use Rattle.dump.proofs.read_input.Tie as tie
+use Rattle.streams.proofs.read_input.Statement.{statement}
+use Rattle.streams.proofs.read_input.Tie as tie
 
 -- A number within the list counts bytes at its start.
 counts : (n : ℕ) → (xs : List ℕ) → n ≤ length xs → Counts n xs
