@@ -58,7 +58,7 @@ module _ (c : ℕ → ℕ) where
 
 -- ---- past the end
 
-cell-past : (s : List ℕ) (i : ℕ) → 8 * length s ≤ i → cell s i ≡ 0
+pub cell-past : (s : List ℕ) (i : ℕ) → 8 * length s ≤ i → cell s i ≡ 0
 unfolding cell
 cell-past s i h =
     let e : length s ≤ i / 8 = omega arith in
