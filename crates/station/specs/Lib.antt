@@ -6,5 +6,7 @@ pub mod Records
 pub mod Picks
 -- a file in numbers, and what the functions of the file promise
 pub mod Files
+-- a capture in numbers, and what its function promises
+pub mod Timings
 -- what each exported function promises
 pub mod Outcomes

@@ -7,11 +7,13 @@ ghost use Rattle.coding.specs.Coding.{high, low};
 ghost use Rattle.cells.specs.declared.Mode.the-variants.{Fm, Mfm};
 ghost use Rattle.station.specs.Outcomes.{GivesEdc, GivesCoded, GivesDataByte, GivesFormat, GivesRead, GivesPick, GivesRequest, GivesStep};
 ghost use Rattle.station.specs.Files.{GivesFileRead, GivesFileWrite};
+ghost use Rattle.station.specs.Timings.{GivesFlux};
 
 mod files;
 mod records;
 mod rewriting;
 mod taken;
+mod timings;
 
 // The EDC of the bytes, with the register all ones at the start.
 #[no_mangle]
@@ -180,4 +182,21 @@ pub extern "C" fn station_file_read(file: &[u8], sections: &mut [u32; 8]) -> u8
     let answer = file::read(file);
     *sections = files::section_numbers(answer);
     files::judged_number(answer)
+}
+
+// Lays the cells of a capture into the image, where a nominal cell takes so many ticks of the counter that the stamps come from: 0, and `image` holds the
+// cells and zeros behind them, `result` their number and 0; or the number of the refusal, zeros in the whole image, and `result` gets 0 and the number
+// of the interval that is in no band, from 1, or zeros.
+#[no_mangle]
+pub extern "C" fn station_flux(
+    ticks: u32,
+    stamps: &[u32],
+    image: &mut [u8],
+    result: &mut [u64; 2],
+) -> u8
+    ensures { λ r. ⌜ GivesFlux ticks (now (stamps .entry)) (listLength (now (image .entry))) r (now (image .exit)) (now (result .exit)) ⌝ }
+{
+    let answer = flux::lay(ticks, stamps, image);
+    *result = timings::laid_numbers(answer);
+    timings::laid_number(answer)
 }
