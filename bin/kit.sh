@@ -26,11 +26,9 @@ run_program() { # PROGRAM WORDS..
     ${emulator:+"$emulator"} "$loader" --library-path "$libraries" "$@"
 }
 
-# All that a script does which has PROGRAM print the one input that WORDS name: it prints and exits. The script is in bash, has a function `usage`, and has
-# noted whether it was given an input and an output (has_input, has_output). WHOLE is a pattern for what PROGRAM prints where all went well, a WHAT.
-print_input() { # PROGRAM WHAT WHOLE WORDS..
-    program=$1 what=$2 whole=$3
-    shift 3
+# For a script that hands the one input that WORDS name to a program: opens it, and sets `from`, what to call it; or says why not, or how the script is
+# used, and exits. The script is in bash, has a function `usage`, and has noted whether it was given an input and an output (has_input, has_output).
+take_input() { # WORDS..
     [ -n "$has_output" ] || give_up "standard output is closed"
     case ${1-} in
     -h | --help)
@@ -55,7 +53,19 @@ print_input() { # PROGRAM WHAT WHOLE WORDS..
         why=$({ : <"$from"; } 2>&1)
         give_up "can't read $from: ${why##*: }"
     fi
+}
 
+# Brings its standard input to the standard output, or says why that can't be.
+put_out() {
+    { why=$(cat 2>&1 >&3) || give_up "the output could not be written${why:+: ${why##*: }}"; } 3>&1
+}
+
+# All that a script does which has PROGRAM print the one input that WORDS name (see take_input): it prints and exits. WHOLE is a pattern for what PROGRAM
+# prints where all went well, a WHAT.
+print_input() { # PROGRAM WHAT WHOLE WORDS..
+    program=$1 what=$2 whole=$3
+    shift 3
+    take_input "$@"
     find_kit
     build program "$program" || exit
     # a program in Rattle has no exit status: what it printed tells how it went, and it has said itself what could not be read
@@ -66,13 +76,35 @@ print_input() { # PROGRAM WHAT WHOLE WORDS..
     0:"refused "*) status=1 ;;
     *) give_up "no $what was printed, from $from" ;;
     esac
-    {
-        why=$(cat 2>&1 >&3 <<END
+    put_out <<END
 $text
 END
-        ) || give_up "the output could not be written${why:+: ${why##*: }}"
-    } 3>&1
     exit "$status"
+}
+
+# The same where PROGRAM writes a WHAT in bytes, LEAST of them at least, which never begins as a refusal does. Of a refusal standard error gets a sentence
+# too, since the output may go to another program: the script has a function `why_refused`, which is handed the refusal's words.
+write_input() { # PROGRAM WHAT LEAST WORDS..
+    program=$1 what=$2 least=$3
+    shift 3
+    take_input "$@"
+    find_kit
+    build program "$program" || exit
+    made=$(mktemp -d) || give_up "can't make a temporary folder"
+    trap 'rm -rf "$made"' EXIT
+    # bytes have no end that one could look for: where the program has said anything, they are not whole
+    run_program "$root/target/bin/$program" >"$made/out" 2>"$made/said" && ended=0 || ended=$?
+    cat "$made/said" >&2
+    if [ "$ended" -ne 0 ] || [ -s "$made/said" ] || [ "$(wc -c <"$made/out")" -lt "$least" ]; then
+        give_up "no $what was written, from $from"
+    fi
+    refused=
+    ! printf 'refused ' | cmp -s -n 8 - "$made/out" || refused=$(cat "$made/out")
+    put_out <"$made/out"
+    [ -n "$refused" ] || exit 0
+    # shellcheck disable=SC2086
+    say "no $what: $(why_refused ${refused#refused }) ($(echo "$refused" | cut -d ' ' -f 1,2))"
+    exit 1
 }
 
 # The crates that NAME is made of, each behind those that it stands on.
