@@ -18,6 +18,8 @@ pub mod Places
 pub mod filing
 -- records with the letter F
 pub mod Letters
+-- flux timings
+pub mod timing
 -- the facts
 pub mod Facts
 -- each contract allows one outcome

@@ -26,6 +26,9 @@ use Rattle.pick.specs.Picks.{IsChosen, IsPicked, IsStretch}
 use Rattle.file.specs.Contents.{Content}
 use Rattle.file.specs.Outcomes.{IsRefusalNumber as IsFileRefusalNumber, IsHead, IsWhole, IsRead, Writes}
 use Rattle.file.specs.declared.Judged.{Judged}
+use Rattle.flux.specs.Outcomes.{IsRefusalNumber as IsFluxRefusalNumber, IsIntervalNumber, Lays}
+use Rattle.flux.specs.declared.Laid.{Laid}
+use Rattle.flux.specs.declared.Refusal.{Refusal as FluxRefusal}
 use Rattle.file.specs.declared.Refusal.{Refusal as FileRefusal}
 use Rattle.file.specs.declared.Written.{Written}
 use Rattle.answers.specs.declared.Record.{Record}
@@ -39,6 +42,7 @@ use Rattle.rewrite.specs.declared.Plan.{Plan}
 use Rattle.rewrite.specs.declared.Stepped.{Stepped}
 use Rattle.station.specs.Outcomes.{GivesEdc, GivesCoded, GivesDataByte, GivesFormat, GivesRead, GivesPick, GivesRequest, GivesStep}
 use Rattle.station.specs.Files.{GivesFileRead, GivesFileWrite}
+use Rattle.station.specs.Timings.{GivesFlux}
 use Rattle.promises.specs.Unique.{Unique}
 
 -- A relation that gives the outcome as a value.
@@ -230,6 +234,18 @@ step plan mark contents before x y p q = by-values _ _ x y (p .answers, p .leave
 pub request : (layout cylinder side sector mark : ℕ) (contents image : List ℕ) → Unique (Requests layout cylinder side sector mark contents image)
 request layout cylinder side sector mark contents image = by-value _
 
+-- ---- flux
+
+-- refusal_number, interval_number and lay of the flux timings
+pub flux-refusal-number : (refusal : FluxRefusal) → Unique (IsFluxRefusalNumber refusal)
+flux-refusal-number refusal = by-value _
+
+pub flux-interval-number : (refusal : FluxRefusal) → Unique (IsIntervalNumber refusal)
+flux-interval-number refusal = by-value _
+
+pub flux-lay : (ticks : ℕ) (stamps : List ℕ) (bytes : ℕ) → Unique (λ (o : Laid × List ℕ). Lays ticks stamps bytes (o .0) (o .1))
+flux-lay ticks stamps bytes x y p q = by-values _ _ x y (p .answers, p .leaves) (q .answers, q .leaves)
+
 -- ---- file
 
 -- refusal_number, head, whole, read and write of the file
@@ -299,3 +315,7 @@ station-file-write content room x y p q =
 
 pub station-file-read : (file : List ℕ) → Unique (λ (o : ℕ × List ℕ). GivesFileRead file (o .0) (o .1))
 station-file-read file x y p q = by-values _ _ x y (p .numbered, p .placed) (q .numbered, q .placed)
+
+pub station-flux : (ticks : ℕ) (stamps : List ℕ) (bytes : ℕ) → Unique (λ (o : ℕ × List ℕ × List ℕ). GivesFlux ticks stamps bytes (o .0) (o .1) (o .2))
+station-flux ticks stamps bytes x y p q =
+    all-three (p .numbered ∙ sym (q .numbered)) (p .leaves ∙ sym (q .leaves)) (p .counted ∙ sym (q .counted))

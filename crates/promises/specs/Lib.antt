@@ -16,6 +16,8 @@ pub mod Places
 pub mod Files
 -- Records with the letter F (02, Req 04).
 pub mod Letters
+-- Flux timings (02, Req 05).
+pub mod Timings
 -- The facts that 01 marks P, and what a contract settles.
 pub mod Facts
 pub mod Unique

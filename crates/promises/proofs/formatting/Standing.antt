@@ -88,7 +88,7 @@ string-bytes Mfm Control = omega arith
 string-bytes Mfm Open = omega arith
 
 -- All of an image is.
-image-bytes : (mode : Mode) (a : ℕ) (ss : List Symbol) → Bytes (image mode a ss)
+pub image-bytes : (mode : Mode) (a : ℕ) (ss : List Symbol) → Bytes (image mode a ss)
 unfolding image
 image-bytes mode a [] = tt
 image-bytes mode a (plain x ∷ ss) = (high-lt mode a x, (low-lt mode x, image-bytes mode (x % 2) ss))
