@@ -38,9 +38,10 @@ c_test() { # 77 where there is no compiler for it
     ready_for_c || return
     mkdir -p "$here/target/c"
     strict="-std=c99 -Wall -Wextra -pedantic -Werror"
-    # the header by itself with a record and a file's sections, in C and in C++
-    printf '#include "station.h"\n%s\n%s\n' 'struct station_record none = {STATION_ANSWER_NO_BLOCK, STATION_NO_PLACE};' \
-        'struct station_sections of_no_track = {4, STATION_LONGEST_LABEL, 88, 0, 92, 0, 96, 0};' >"$here/target/c/header.c"
+    # the header by itself with a record, a file's sections and a flux's result, in C and in C++
+    printf '#include "station.h"\n%s\n%s\n%s\n' 'struct station_record none = {STATION_ANSWER_NO_BLOCK, STATION_NO_PLACE};' \
+        'struct station_sections of_no_track = {4, STATION_LONGEST_LABEL, 88, 0, 92, 0, 96, 0};' \
+        'struct station_flux_result refused = {0, STATION_MOST_TICKS - STATION_LEAST_TICKS};' >"$here/target/c/header.c"
     kit_clang $strict -I"$root/include" -x c -fsyntax-only "$here/target/c/header.c" &&
         kit_clang -std=c++98 -Wall -Wextra -pedantic -Werror -I"$root/include" -x c++ -fsyntax-only "$here/target/c/header.c" &&
         compile_c $strict -O1 -I"$root/include" "$here"/c/*.c "$archive" -o "$here/target/c/station_test" &&

@@ -1,12 +1,13 @@
 /*
- * station.h: the tracks of 200 mm flexible disk cartridges (ISO 7065-2), held as bit cells: format, read, pick from two passes, rewrite; and the
- * file of a read cartridge.
+ * station.h: the tracks of 200 mm flexible disk cartridges (ISO 7065-2), held as bit cells: format, read, pick from two passes, rewrite; the file
+ * of a read cartridge; and the cells of a track from the time stamps of its flux transitions.
  *
  * The functions are in target/staticlib/libstation.a, which `rt staticlib station` writes for x86-64 programs. Each is proved to do what is
  * said at its prototype, for all arguments, and to touch no byte but those it is lent. The archive has no variable and calls nothing but
  * memset: nothing is kept from one call to the next, and nothing is allocated.
  *
- * What is lent. An area is a pointer to its first byte and, where the length is not fixed, the number of its bytes, NAME_length.
+ * What is lent. An area is a pointer to its first byte and, where the length is not fixed, the number of its bytes, NAME_length; of stamps, which
+ * have four bytes each and the alignment of a uint32_t, that is their number.
  *   - const areas are only read, and may overlap one another; the others are written, and must overlap no other area of the call.
  *   - Each pointer must be valid for as many elements as are said, and nothing else may write them during the call.
  *   - Through a pointer whose length is 0 nothing is read or written: it may be null. (The proofs speak of areas, not of pointers; this was
@@ -44,6 +45,10 @@
  *   34  not as many bytes of data as the answers call for
  *   35  bytes are left over behind the file
  *   36  the area is shorter than the file
+ *   41  the ticks of a nominal bit cell: 16 to 1,024
+ *   42  no stamps
+ *   43  an interval in no band
+ *   44  a cell past the end of the image
  *
  * A sector's record, from station_read in `records` and from station_pick in `record`, is its answer and its place. The answer:
  *
@@ -74,6 +79,16 @@
  *
  * The tracks' count is that of tracks, the others' that of bytes. Each content has one file. The empty one has 16 bytes, all zero. Whether a
  * read of its track could give an answer is not asked, nor what the data are: behind a 3 too they may be any.
+ *
+ * A capture is the time stamps of a track's flux transitions in MFM, in ticks, from a counter that runs over from 4,294,967,295 to 0. An interval is
+ * what lies between two neighbouring stamps, always less than one full run of the counter; that between the first two has number 1. A bit cell is
+ * two cells of an image. By the average of the last eight accepted intervals, the ticks of all over the cells of all, an interval is
+ *
+ *   2 cells  from 160 % to 240 % of that average cell, ends included
+ *   3 cells  from 260 % to 330 %
+ *   4 cells  from 370 % to 450 %
+ *
+ * or it is in no band. At the start the eight are bit cells of the nominal ticks. So the bands follow a drive that slowly runs faster or slower.
  */
 #ifndef STATION_H
 #define STATION_H
@@ -110,6 +125,14 @@ enum station_file_refusal {
     STATION_REFUSED_FILE_DATA_COUNT = 34,
     STATION_REFUSED_FILE_LEFT_OVER = 35,
     STATION_REFUSED_FILE_AREA_LENGTH = 36
+};
+
+/* Those of station_flux. */
+enum station_flux_refusal {
+    STATION_REFUSED_FLUX_TICKS_NUMBER = 41,
+    STATION_REFUSED_FLUX_NO_STAMPS = 42,
+    STATION_REFUSED_FLUX_NO_BAND = 43,
+    STATION_REFUSED_FLUX_PAST_IMAGE = 44
 };
 
 enum station_answer {
@@ -164,6 +187,12 @@ enum station_file_size {
     STATION_LONGEST_FILE = 1224182
 };
 
+/* The ticks that a nominal bit cell of a capture may have: the least and the most. */
+enum station_flux_size {
+    STATION_LEAST_TICKS = 16,
+    STATION_MOST_TICKS = 1024
+};
+
 /* The marks that a sector may be given: of a data record, and of a control record or a planned defect. */
 enum station_mark {
     STATION_MARK_DATA = 0xFB,
@@ -189,6 +218,12 @@ struct station_sections {
     uint32_t answers_count;
     uint32_t data_place;
     uint32_t data_count;
+};
+
+/* What came of a capture: the number of cells, and for the refusal 43 that of the interval. */
+struct station_flux_result {
+    uint64_t cells;
+    uint64_t interval;
 };
 
 /* The EDC of the bytes: X^16 + X^12 + X^5 + 1, the register all ones at the start. Never refused. */
@@ -270,6 +305,16 @@ uint8_t station_file_write(const uint8_t *label, size_t label_length, const uint
  * 33 or 34), then whether it is there as a whole (31), then what it holds (32 or 33); 35 is last.
  */
 uint8_t station_file_read(const uint8_t *file, size_t file_length, struct station_sections *sections);
+
+/*
+ * Turns a capture into the cells of an image, by the ticks of a nominal bit cell. The first stamp gives a cell 1; each interval gives its cells,
+ * which are 0 but for the last, a 1.
+ * 0: `image`, whatever it held, holds the cells, and zeros behind them; `result` gets their number, and 0 for the interval.
+ * Refused 41, 42, then 43 or 44, by the stamps in their order: the first that is met, and in one interval 43. `image` is zero over the whole length
+ * lent, and `result` gets zeros, but with 43 the number of the interval.
+ */
+uint8_t station_flux(uint32_t ticks, const uint32_t *stamps, size_t stamps_length, uint8_t *image, size_t image_length,
+                     struct station_flux_result *result);
 
 #ifdef __cplusplus
 }

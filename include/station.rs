@@ -79,6 +79,14 @@ extern "C" {
         length: *mut [u32; 1],
     ) -> u8;
     pub fn station_file_read(file: *const u8, file_length: usize, sections: *mut Sections) -> u8;
+    pub fn station_flux(
+        ticks: u32,
+        stamps: *const u32,
+        stamps_length: usize,
+        image: *mut u8,
+        image_length: usize,
+        result: *mut FluxResult,
+    ) -> u8;
 }
 
 /// What one layout takes: its sectors, the bytes of one, and the image bytes of a formatted track.
@@ -146,6 +154,19 @@ pub struct Sections {
     pub answers_count: u32,
     pub data_place: u32,
     pub data_count: u32,
+}
+
+/// The least and the most ticks of a nominal bit cell.
+pub const LEAST_TICKS: u32 = 16;
+pub const MOST_TICKS: u32 = 1_024;
+
+/// What came of a capture, station.h's `struct station_flux_result`: the number of cells, and for the refusal 43 that of
+/// the interval.
+#[repr(C)]
+#[derive(Clone, Copy, Debug, Default, PartialEq, Eq)]
+pub struct FluxResult {
+    pub cells: u64,
+    pub interval: u64,
 }
 
 /// What a read tells of a track, beside the sectors' slots.
@@ -325,4 +346,13 @@ pub fn file_read(file: &[u8], sections: &mut Sections) -> u8 {
     // SAFETY: pointer and length are those of one live slice, which is only read, and `sections`, which is written,
     // does not overlap it.
     unsafe { station_file_read(file.as_ptr(), file.len(), sections) }
+}
+
+/// Turns the time stamps of flux transitions into the cells of an image, by the ticks of a nominal bit cell. 0: the image
+/// holds the cells, and zeros behind them, and the result has their number. Else the number of the refusal, all of the
+/// image is zero, and so is the result, but for the interval's number with 43.
+pub fn flux(ticks: u32, stamps: &[u32], image: &mut [u8], result: &mut FluxResult) -> u8 {
+    // SAFETY: each pointer and length are those of one live slice or struct; `stamps` is only read, and `image` and
+    // `result`, which are written, overlap neither it nor each other; every number is taken, in the stamps too.
+    unsafe { station_flux(ticks, stamps.as_ptr(), stamps.len(), image.as_mut_ptr(), image.len(), result) }
 }

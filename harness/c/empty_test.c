@@ -6,12 +6,14 @@
 
 static uint8_t data[LONGEST_AREA], marks[MOST_SECTORS], image[LONGEST_TRACK], contents[128];
 static const uint8_t track_zero[3];
+static const uint32_t stamps[2] = {0, 100};
 
-static void with(uint8_t *nothing) {
+static void with(uint8_t *nothing, const uint32_t *nowhere) {
     const struct track *track = &TRACKS[0];
     size_t area = track->sectors * track->size;
     struct station_record records[26], picked;
     struct station_sections sections;
+    struct station_flux_result result;
     uint32_t counts[2], taken[3], plan[4], length[1];
     fresh(track, data, marks, image);
     SAME(station_edc(nothing, 0), 0xFFFF);
@@ -34,9 +36,14 @@ static void with(uint8_t *nothing) {
     SAME(station_file_write(nothing, 0, nothing, 0, nothing, 0, nothing, 0, nothing, 0, length), STATION_REFUSED_FILE_AREA_LENGTH);
     SAME(station_file_write(marks, 1, track_zero, 3, nothing, 0, nothing, 0, data, 16, length), STATION_REFUSED_FILE_ANSWER_BYTES);
     SAME(station_file_read(nothing, 0, &sections), STATION_REFUSED_FILE_PAST_END);
+    SAME(station_flux(100, nowhere, 0, image, track->image, &result), STATION_REFUSED_FLUX_NO_STAMPS);
+    SAME(station_flux(100, stamps, 2, nothing, 0, &result), STATION_REFUSED_FLUX_PAST_IMAGE);
+    SAME(station_flux(100, nowhere, 0, nothing, 0, &result), STATION_REFUSED_FLUX_NO_STAMPS);
+    SAME(station_flux(0, nowhere, 0, nothing, 0, &result), STATION_REFUSED_FLUX_TICKS_NUMBER);
 }
 
 void empty_test(void) {
-    with(NULL);
-    with((uint8_t *)(uintptr_t)1);
+    with(NULL, NULL);
+    /* for stamps one with their alignment */
+    with((uint8_t *)(uintptr_t)1, (const uint32_t *)(uintptr_t)4);
 }

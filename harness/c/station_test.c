@@ -28,6 +28,10 @@ static void numbers(void) {
     SAME(STATION_REFUSED_FILE_DATA_COUNT, 34);
     SAME(STATION_REFUSED_FILE_LEFT_OVER, 35);
     SAME(STATION_REFUSED_FILE_AREA_LENGTH, 36);
+    SAME(STATION_REFUSED_FLUX_TICKS_NUMBER, 41);
+    SAME(STATION_REFUSED_FLUX_NO_STAMPS, 42);
+    SAME(STATION_REFUSED_FLUX_NO_BAND, 43);
+    SAME(STATION_REFUSED_FLUX_PAST_IMAGE, 44);
     SAME(STATION_ANSWER_DATA, 1);
     SAME(STATION_ANSWER_CONTROL, 2);
     SAME(STATION_ANSWER_DEFECTIVE, 3);
@@ -41,9 +45,12 @@ static void numbers(void) {
     SAME(STATION_MARK_DATA, 0xFB);
     SAME(STATION_MARK_CONTROL, 0xF8);
     SAME(STATION_NO_PLACE, UINT32_MAX);
+    SAME(STATION_LEAST_TICKS, 16);
+    SAME(STATION_MOST_TICKS, 1024);
 }
 
-/* A record is its numbers, one after the other, and so are a file's sections: place and count of each, in the order of the file. */
+/* A record is its numbers, one after the other; so are a file's sections, place and count of each in the order of the file; and so is a flux's
+ * result. */
 static void structs(void) {
     SAME(sizeof(struct station_record), 2 * sizeof(uint32_t));
     SAME(offsetof(struct station_record, place), sizeof(uint32_t));
@@ -56,6 +63,9 @@ static void structs(void) {
     SAME(offsetof(struct station_sections, answers_count), 5 * sizeof(uint32_t));
     SAME(offsetof(struct station_sections, data_place), 6 * sizeof(uint32_t));
     SAME(offsetof(struct station_sections, data_count), 7 * sizeof(uint32_t));
+    SAME(sizeof(struct station_flux_result), 2 * sizeof(uint64_t));
+    SAME(offsetof(struct station_flux_result, cells), 0);
+    SAME(offsetof(struct station_flux_result, interval), sizeof(uint64_t));
 }
 
 /* 004, annex A, a bit at a time: a feedback of C15 and the input, which goes into C0, C5 and C12. */
@@ -148,5 +158,6 @@ int main(void) {
     size_test();
     file_test();
     file_end_test();
+    flux_test();
     return checks_end();
 }

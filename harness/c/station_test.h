@@ -13,5 +13,6 @@ void empty_test(void);
 void size_test(void);
 void file_test(void);
 void file_end_test(void);
+void flux_test(void);
 
 #endif

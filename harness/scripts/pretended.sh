@@ -5,8 +5,8 @@ mkdir -p "$copy/harness" "$copy/examples" "$copy/elsewhere" "$pretended/bin" "$p
 mkdir -p "$pretended/on/$(uname -m)/toolchain/bin"
 cp -R "$root/bin" "$copy/bin"
 cp "$root"/harness/*.sh "$copy/harness" && cp "$root/examples/run.sh" "$copy/examples"
-printf 'one:\ntwo: one # above it\ndump: one two io libc\ncartridge_file: two io\nstation: two\nother: one\n' >"$copy/crates.txt"
-for crate in one two dump cartridge_file station other; do
+printf 'one:\ntwo: one # above it\ndump: one two io libc\ncartridge_file: two io\nflux_track: two io\nstation: two\nother: one\n' >"$copy/crates.txt"
+for crate in one two dump cartridge_file flux_track station other; do
     mkdir -p "$copy/crates/$crate/src" "$copy/crates/$crate/must-fail"
     echo "$crate" >"$copy/crates/$crate/src/lib.rt"
 done
@@ -30,7 +30,7 @@ refuses:*)
     echo "fn one::f: proved"
     echo "rt: one proved (unchanged since it was last proved)"
     echo "rt: two proved (4 s)"
-    case $2 in dump | cartridge_file) ;; *) exit 0 ;; esac
+    case $2 in dump | cartridge_file | flux_track) ;; *) exit 0 ;; esac
     echo "rt: $2 proved (5 s)"
     [ "${PRETENDED:-proves}" != forgets ] || exit 0
     mkdir -p target/bin && cp "$kit/program" "target/bin/$2"
@@ -54,6 +54,12 @@ babbles) echo "tracks" ;;
 prints-file) echo "label \"$(wc -c)\"" && echo "tracks 0, sectors 0, data bytes 0" ;;
 is-cut-file) printf 'label "tracks 1"\ncylinder 1 side 0 layout 3: 1 1' ;;
 fails-file) printf 'label ""\ntracks 0, sectors 0, data bytes 0\n' && exit 3 ;;
+makes) printf '\1\5\0\252' && wc -c ;;
+makes-letters) printf 'ref\365sed 43 5\n' ;;
+refuses-flux) echo "refused ${REFUSED:-43 17}" ;;
+makes-less) printf '\1\5\0' ;;
+makes-and-says) printf '\1\5\0\252' && echo "the output could not be written" >&2 ;;
+makes-and-fails) printf '\1\5\0\252' && exit 3 ;;
 dies) printf 'track 1 0 0\nidents 0 0\n' && kill -9 $$ ;;
 fails) printf 'track 1 0 0\nidents 0 0\n' && exit 3 ;;
 esac
@@ -116,6 +122,7 @@ done
 without_kit() { (cd "$copy" && PATH=$work/tools && "$@"); }
 no_kit="the Rattle kit is needed, and its command rt is not on the path \\(PATH\\) "
 try "dump without a kit" 2 "" "bin/dump: $no_kit" without_kit bin/dump five
+try "flux without a kit" 2 "" "bin/flux: $no_kit" without_kit bin/flux five
 try "cartridge-file without a kit" 2 "" "bin/cartridge-file: $no_kit" without_kit bin/cartridge-file five
 try "vectors without a kit" 2 "" "bin/vectors: $no_kit" without_kit bin/vectors "$root/vectors"
 try "harness without a kit" 2 "" "harness/run.sh: $no_kit" without_kit harness/run.sh
@@ -160,6 +167,30 @@ PROGRAM=fails-file try "a file, and a status" 2 "" "bin/cartridge-file: no file 
 echo changed >"$copy/crates/cartridge_file/src/lib.rt"
 PRETENDED=refuses try "a cartridge's file, where the build fails" 2 "" ".* bin/cartridge-file: cartridge_file could not be built; .* " file five
 
+# the program whose output is bytes: they go through no variable, and what is kept of them is removed
+flux() { from "$copy" env TMPDIR="$work/made" bin/flux "$@"; }
+mkdir "$work/made"
+printf '\1\5\0\2525\n' >"$work/five-track.out"
+printf 'ref\365sed 43 5\n' >"$work/letters.out"
+PROGRAM=makes try "a track, and its build" 0 "$work/five-track.out" \
+    "bin/flux: building flux_track, .*: to be proved: one two flux_track .*: proved: flux_track \\(5 s\\), 0 of 3 left " flux five
+PROGRAM=makes try "from the standard input" 0 "$work/five-track.out" "" flux <"$copy/five"
+PROGRAM=makes-letters try "a track that begins almost as a refusal" 0 "$work/letters.out" "" flux five
+for refused in "41:the ticks of a nominal bit cell are not 16 to 1,024" "42:there is no stamp" "43 17:interval 17 is in no band" \
+    "44:there are more cells than an image can have"; do
+    PROGRAM=refuses-flux REFUSED=${refused%%:*} try "a capture refused by ${refused%%:*}" 1 <(echo "refused ${refused%%:*}") \
+        "bin/flux: no track: ${refused#*:} \\(refused ${refused:0:2}\\) " flux five
+done
+PROGRAM=is-silent try "nothing of a track" 2 "" "bin/flux: no track was written, from five " flux five
+PROGRAM=makes-less try "no byte of an image" 2 "" "bin/flux: no track was written, from the standard input " flux <"$copy/five"
+PROGRAM=makes-and-says try "a track that is not whole" 2 "" "the output could not be written bin/flux: no track was written, from five " flux five
+PROGRAM=makes-and-fails try "a track in bytes, and a status" 2 "" "bin/flux: no track was written, from five " flux five
+PROGRAM=refuses-flux try "a refusal, and a full disk" 2 "" "bin/flux: the output could not be written: No space left on device " eval 'flux five >/dev/full'
+PROGRAM=makes try "a track, and no temporary folder" 2 "" ".*bin/flux: can't make a temporary folder " from "$copy" env TMPDIR="$work/none" bin/flux five
+looks "nothing is left of what was made" [ -z "$(ls -A "$work/made")" ]
+echo changed >"$copy/crates/flux_track/src/lib.rt"
+PRETENDED=refuses try "a track, where the build fails" 2 "" ".* bin/flux: flux_track could not be built; .* " flux five
+
 # words
 usage_of() { PATH=$pretended/bin:$PATH "$@" >"$work/usage.out" 2>/dev/null; }
 usage_of "$copy/bin/dump" --help
@@ -175,6 +206,12 @@ try "cartridge-file -h" 0 "$work/usage.out" "" file -h
 try "cartridge-file --help, and a full disk" 2 "" ".*bin/cartridge-file: the output could not be written " eval 'file --help >/dev/full'
 try "cartridge-file with two files" 2 "" "usage: bin/cartridge-file .*" file five five
 try "cartridge-file with an option that it has not" 2 "" "bin/cartridge-file: there is no option --five .*usage: bin/cartridge-file .*" file --five
+usage_of "$copy/bin/flux" --help
+looks "flux --help says how it ends" grep -q "^Exit status: 0 .* 1 " "$work/usage.out"
+try "flux -h" 0 "$work/usage.out" "" flux -h
+try "flux --help, and a full disk" 2 "" ".*bin/flux: the output could not be written " eval 'flux --help >/dev/full'
+try "flux with two files" 2 "" "usage: bin/flux .*" flux five five
+try "flux with an option that it has not" 2 "" "bin/flux: there is no option --five .*usage: bin/flux .*" flux --five
 usage_of "$copy/harness/run.sh" --help
 looks "harness --help says what there is" grep -q "harness/run.sh soak SEED ROUNDS" "$work/usage.out"
 before=$(cat "$pretended/calls" | wc -l)
@@ -201,6 +238,15 @@ try "a vector" 0 <(echo "dump: 1 vectors as expected, 0 not") "" from "$copy" bi
 cp "$copy/five" "$work/vectors/0002.in" && echo "0002 a wrong one" >"$work/vectors/INDEX" && cp "$work/refused.out" "$work/vectors/0002.out"
 cp "$copy/five" "$work/vectors/0003.in"
 try "a vector that differs, and one without its output" 1 <(printf 'differs: 0002 a wrong one\ndiffers: 0003\ndump: 1 vectors as expected, 2 not\n') "" \
+    from "$copy" bin/vectors "$work/vectors"
+mkdir "$work/vectors/flux"
+try "captures in an empty folder" 2 <(printf 'differs: 0002 a wrong one\ndiffers: 0003\ndump: 1 vectors as expected, 2 not\n') \
+    "bin/vectors: there are no vectors in $work/vectors/flux: no file NNNN.in " from "$copy" bin/vectors "$work/vectors"
+rm "$work/vectors"/000[23].*
+cp "$copy/five" "$work/vectors/flux/0001.in" && cp "$work/five.out" "$work/vectors/flux/0001.out"
+try "a vector and a capture" 0 <(printf '%s: 1 vectors as expected, 0 not\n' dump flux_track) ".* 0 of 3 left " from "$copy" bin/vectors "$work/vectors"
+cp "$copy/five" "$work/vectors/flux/0002.in" && echo "0002 a wrong capture" >"$work/vectors/flux/INDEX" && cp "$work/refused.out" "$work/vectors/flux/0002.out"
+try "a capture that differs" 1 <(printf 'dump: 1 vectors as expected, 0 not\ndiffers: 0002 a wrong capture\nflux_track: 1 vectors as expected, 1 not\n') "" \
     from "$copy" bin/vectors "$work/vectors"
 
 # peers says what it is about to install before it does

@@ -1,9 +1,10 @@
 //! The kept vectors: what is printed for each, and its records, by the library, by the reference and by the literal
-//! reader; the kept EDCs; and the kept files.
+//! reader; the kept EDCs; the kept files; and the kept captures.
 use harness::compare::file::{read as read_file, sections};
 use harness::files::numbers;
 use harness::reference::dump::{dump, dump_by, records_by};
-use harness::reference::{annex, edc, plain, plain_file, read};
+use harness::reference::flux_track::{flux_track, flux_track_by};
+use harness::reference::{annex, edc, plain, plain_file, plain_flux, read};
 use harness::rng::Rng;
 use harness::station::{self, Sections};
 use harness::tally::met::{Row, ANSWERS};
@@ -81,5 +82,27 @@ fn kept_files() {
     }
     tally.has_met(Row::FileRead, &[0, 31, 32, 33, 34, 35]);
     tally.has_met(Row::FileAnswer, &ANSWERS);
+    tally.report();
+}
+
+/// What the program has to make of each capture, a track or a refusal.
+#[test]
+fn kept_captures() {
+    let folder = folder().join("flux");
+    let index = fs::read_to_string(folder.join("INDEX")).expect("the list of captures");
+    let mut tally = Tally::new("flux", "kept captures");
+    for line in index.lines() {
+        let place = folder.join(&line[..4]);
+        let input = fs::read(place.with_extension("in")).expect("a kept capture");
+        let expected = fs::read(place.with_extension("out")).expect("what is made of it");
+        assert!(flux_track_by(station::flux, &input) == expected, "{line}");
+        assert!(flux_track(&input) == expected, "reference: {line}");
+        assert!(flux_track_by(plain_flux::flux, &input) == expected, "literal version: {line}");
+        let refused = String::from_utf8(expected).ok().filter(|said| said.starts_with("refused "));
+        let number = refused.map_or(0, |said| said[8..10].parse::<u8>().expect("a refusal's number"));
+        tally.met(Row::Flux, number);
+        tally.input();
+    }
+    tally.has_met(Row::Flux, &[0, 41, 42, 43, 44]);
     tally.report();
 }

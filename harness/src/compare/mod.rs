@@ -1,5 +1,6 @@
 //! How the library is held against the reference on one call, and what is counted then: for the tests and the long run.
 pub mod file;
+pub mod flux;
 pub mod format;
 pub mod pick;
 pub mod read;

@@ -1,5 +1,5 @@
 //! The outcomes that comparisons met, and those that a run has to meet (01, "How a track is read", "Refused calls"; 02,
-//! requests 03 and 04).
+//! requests 03, 04 and 05).
 use super::grouped;
 use std::collections::BTreeSet;
 use std::fmt::{self, Display};
@@ -26,13 +26,16 @@ pub enum Row {
     FileRead,
     /// Sectors in files that were accepted.
     FileAnswer,
+    Flux,
+    /// Intervals of captures that were accepted: how many half cells each is.
+    Interval,
 }
 
 /// Every answer of a reader.
 pub const ANSWERS: [u8; 10] = [1, 2, 3, 21, 22, 23, 24, 25, 26, 27];
 
 /// Every row with its name, and the outcomes that it has to meet. No call gives 8: every layout adds up to its image.
-const ROWS: [(Row, &str, &[u8]); 13] = [
+const ROWS: [(Row, &str, &[u8]); 15] = [
     (Row::Format, "format", &[0, 1, 2, 3, 4, 5, 6, 7]),
     (Row::Read, "read", &[0, 1, 2, 3, 4, 5]),
     (Row::Answer, "answer", &ANSWERS),
@@ -46,10 +49,13 @@ const ROWS: [(Row, &str, &[u8]); 13] = [
     (Row::FileWrite, "file write", &[0, 32, 33, 34, 36]),
     (Row::FileRead, "file read", &[0, 31, 32, 33, 34, 35]),
     (Row::FileAnswer, "answer in a file", &ANSWERS),
+    (Row::Flux, "flux", &[0, 41, 42, 43, 44]),
+    (Row::Interval, "half cells", &[2, 3, 4]),
 ];
 
 /// The rows whose numbers other than 0 are refusals.
-const CALLS: [Row; 7] = [Row::Format, Row::Read, Row::Pick, Row::Request, Row::Step, Row::FileWrite, Row::FileRead];
+const CALLS: [Row; 8] =
+    [Row::Format, Row::Read, Row::Pick, Row::Request, Row::Step, Row::FileWrite, Row::FileRead, Row::Flux];
 
 /// Room for every number there is, those of the requests (02) among them: answers up to 27, refusals up to 53.
 const NUMBERS: usize = 54;

@@ -29,6 +29,9 @@ pub const MFM: Track = Track { layout: 1, cylinder: 5, side: 1 };
 /// A track of each layout.
 pub const EACH: [Track; 4] = [FM, MFM, Track { layout: 2, ..MFM }, Track { layout: 3, ..MFM }];
 
+/// Those in MFM.
+pub const EACH_MFM: [Track; 3] = [EACH[1], EACH[2], EACH[3]];
+
 /// Every kind of track with each layout that it takes.
 pub fn all() -> Vec<Track> {
     let mut tracks = vec![FM, Track { layout: 1, cylinder: 0, side: 1 }];

@@ -43,11 +43,14 @@ impl Header {
         let mut constants: Vec<String> =
             enums.iter().flat_map(|text| braced(text, "{").split(',').map(plain).collect::<Vec<_>>()).collect();
         constants.extend(directives.iter().filter_map(|line| defined(line)));
-        assert_eq!(declared.len(), 2, "record and sections are the only structs: {declared:#?}");
-        let fields = |of: &str, name: &str| numbers(braced(of, &format!("struct {name} {{")), ';', "uint32_t ", "");
-        let record = fields(&declared[0], "station_record");
-        let sections = fields(&declared[1], "station_sections");
-        Header { prototypes, constants, structs: Structs { record, sections } }
+        assert_eq!(declared.len(), 3, "record, sections and a flux's result are the only structs: {declared:#?}");
+        let fields = |of: &str, name: &str, number: &str| {
+            numbers(braced(of, &format!("struct {name} {{")), ';', &format!("{number} "), "")
+        };
+        let record = fields(&declared[0], "station_record", "uint32_t");
+        let sections = fields(&declared[1], "station_sections", "uint32_t");
+        let flux_result = fields(&declared[2], "station_flux_result", "uint64_t");
+        Header { prototypes, constants, structs: Structs { record, sections, flux_result } }
     }
 }
 
@@ -73,12 +76,12 @@ fn defined(line: &str) -> Option<String> {
     Some(format!("{name} = {}", plain(value)))
 }
 
-/// The names of a struct's fields, each of which has to be one number of 32 bits.
+/// The names of a struct's fields, each of which has to be one number, of a type that stands before or after the name.
 fn numbers(fields: &str, end: char, before: &str, after: &str) -> Vec<String> {
     let name = |field: &str| {
         let name = field.trim().strip_prefix(before).and_then(|rest| rest.strip_suffix(after));
         let name = name.filter(|name| name.chars().all(|c| c.is_ascii_lowercase() || c == '_'));
-        name.unwrap_or_else(|| panic!("not one number of 32 bits: {field}")).to_string()
+        name.unwrap_or_else(|| panic!("not one number, {before}..{after}: {field}")).to_string()
     };
     fields.split_terminator(end).map(name).collect()
 }
@@ -86,14 +89,18 @@ fn numbers(fields: &str, end: char, before: &str, after: &str) -> Vec<String> {
 /// The structs of a Rust file, which have to be laid out as in C.
 pub fn structs_in_rust(source: &str) -> Structs {
     let source = plain(&without_line_comments(source));
-    let fields = |name: &str| {
+    let fields = |name: &str, number: &str| {
         let beginning = format!("pub struct {name} {{");
         let before = source.split(&beginning).next().unwrap_or("");
         let attributes = before.rsplit(['}', ';']).next().unwrap_or("");
         assert!(attributes.contains("#[repr(C)]"), "{name} is not laid out as in C: {attributes}");
-        numbers(braced(&source, &beginning), ',', "pub ", ": u32")
+        numbers(braced(&source, &beginning), ',', "pub ", &format!(": {number}"))
     };
-    Structs { record: fields("Record"), sections: fields("Sections") }
+    Structs {
+        record: fields("Record", "u32"),
+        sections: fields("Sections", "u32"),
+        flux_result: fields("FluxResult", "u64"),
+    }
 }
 
 /// The declarations of a Rust file's one `extern "C"` block.

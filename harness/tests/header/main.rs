@@ -4,8 +4,8 @@ mod declared;
 mod signatures;
 
 use declared::Header;
-use harness::station::{LAYOUTS, LONGEST_FILE, LONGEST_HEAD, LONGEST_IMAGE, LONGEST_LABEL, MOST_ANSWERS};
-use harness::station::{MOST_SECTORS, MOST_TRACKS, NO_PLACE, TRACK_BYTES};
+use harness::station::{LAYOUTS, LEAST_TICKS, LONGEST_FILE, LONGEST_HEAD, LONGEST_IMAGE, LONGEST_LABEL, MOST_ANSWERS};
+use harness::station::{MOST_SECTORS, MOST_TICKS, MOST_TRACKS, NO_PLACE, TRACK_BYTES};
 use std::fs;
 use std::path::{Path, PathBuf};
 
@@ -92,10 +92,14 @@ fn constant(variant: &str) -> String {
     name
 }
 
-/// A line `function Variant = number`, as variant and number.
+/// A line `function Variant = number`, as variant and number. A variant that carries something has it behind its name, in
+/// brackets: `(Variant carried)`.
 fn equation(line: &str, function: &str) -> Option<(String, String)> {
     let (variant, number) = line.strip_prefix(function)?.strip_prefix(' ')?.split_once(" = ")?;
-    let is_plain = variant.chars().all(char::is_alphanumeric);
+    let carrying = variant.strip_prefix('(').and_then(|inside| inside.strip_suffix(')'));
+    let variant = carrying.and_then(|inside| inside.split(' ').next()).unwrap_or(variant);
+    // what is another function of the carried has its number there
+    let is_plain = variant.chars().all(char::is_alphanumeric) && number.chars().all(|c| c.is_ascii_digit());
     is_plain.then(|| (variant.to_string(), number.to_string()))
 }
 
@@ -131,6 +135,8 @@ fn sizes() -> Vec<String> {
     sizes.push(format!("STATION_LONGEST_AREA = {}", longest.expect("a layout")));
     sizes.push(format!("STATION_LONGEST_IMAGE = {LONGEST_IMAGE}"));
     sizes.extend(file_sizes());
+    sizes.push(format!("STATION_LEAST_TICKS = {LEAST_TICKS}"));
+    sizes.push(format!("STATION_MOST_TICKS = {MOST_TICKS}"));
     sizes
 }
 
@@ -158,7 +164,8 @@ fn the_constants_are_the_specifications_numbers() {
     let constants = header().constants;
     let of =
         |prefix: &str| -> Vec<String> { constants.iter().filter(|text| text.starts_with(prefix)).cloned().collect() };
-    let refusals = numbered("refusalNumber", &[("calls", "STATION_REFUSED_"), ("file", "STATION_REFUSED_FILE_")]);
+    let crates = [("calls", "STATION_REFUSED_"), ("file", "STATION_REFUSED_FILE_"), ("flux", "STATION_REFUSED_FLUX_")];
+    let refusals = numbered("refusalNumber", &crates);
     let mut answers = numbered("answerNumber", &[("answers", "STATION_ANSWER_")]);
     answers.extend(numbered("faultNumber", &[("answers", "STATION_ANSWER_")]));
     assert_eq!(of("STATION_REFUSED_"), refusals, "left: include/station.h, right: refusalNumber");

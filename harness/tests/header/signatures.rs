@@ -16,6 +16,7 @@ enum Kind {
 pub struct Structs {
     pub record: Vec<String>,
     pub sections: Vec<String>,
+    pub flux_result: Vec<String>,
 }
 
 /// An array as the structs that it holds: their name in C and in Rust, and how many they are.
@@ -87,23 +88,27 @@ fn c_type(number: &str) -> &'static str {
         "u8" => "uint8_t",
         "u16" => "uint16_t",
         "u32" => "uint32_t",
+        "u64" => "uint64_t",
         "usize" => "size_t",
         _ => panic!("no C type is given for {number}"),
     }
 }
 
-/// What an array holds, if its name says that it holds records or the sections of one file.
+/// What an array holds, if its name says that it holds records, the sections of one file or what came of one capture.
 fn held(name: &str, element: &str, count: &str, structs: &Structs) -> Option<Held> {
-    let (in_c, in_rust, fields) = match name {
-        "sections" => ("struct station_sections", "Sections", structs.sections.len()),
-        _ if name == "record" || name.ends_with("records") => ("struct station_record", "Record", structs.record.len()),
+    let (in_c, in_rust, number, fields) = match name {
+        "sections" => ("struct station_sections", "Sections", "u32", structs.sections.len()),
+        "result" => ("struct station_flux_result", "FluxResult", "u64", structs.flux_result.len()),
+        _ if name == "record" || name.ends_with("records") => {
+            ("struct station_record", "Record", "u32", structs.record.len())
+        }
         _ => return None,
     };
     let numbers: usize = count.parse().expect("a count of numbers");
-    let is_whole = element == "u32" && fields > 0 && numbers % fields == 0;
-    assert!(is_whole, "{name}: [{element}; {count}] is no whole number of {in_rust} with {fields} numbers each");
+    let is_whole = element == number && fields > 0 && numbers % fields == 0;
+    assert!(is_whole, "{name}: [{element}; {count}] is no whole number of {in_rust} with {fields} {number} each");
     let many = numbers / fields;
-    assert!(name != "sections" || many == 1, "{name}: [{element}; {count}] is not one file's");
+    assert!(name.ends_with("records") || many == 1, "{name}: [{element}; {count}] is more than one {in_rust}");
     Some(Held { in_c, in_rust, many })
 }
 

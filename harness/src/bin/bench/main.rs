@@ -1,6 +1,7 @@
 //! Prints for each exported function the ratio Rattle / Rust: of executed instructions and, on an x86-64 processor, of
 //! time too (under an emulator a time says nothing). `bench --steps`: instructions only.
 mod file;
+mod flux;
 mod measure;
 
 use harness::reference;
@@ -42,6 +43,7 @@ fn main() {
     edc_steps(with_time);
     file::write(with_time);
     file::read(with_time);
+    flux::flux(with_time);
 }
 
 /// What a program writes. Also under an emulator the program is the machine's own.

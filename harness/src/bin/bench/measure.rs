@@ -15,11 +15,22 @@ pub struct Case<'a, F> {
 
 impl<F: Copy> Case<'_, F> {
     pub fn report(&self, with_time: bool) {
+        self.report_with(with_time, |_, _| String::new());
+    }
+
+    /// The same, and how many instructions each of so many parts of the input takes on both sides.
+    pub fn report_each(&self, with_time: bool, parts: usize, name: &str) {
+        let each = |all: u64| all as f64 / parts as f64;
+        self.report_with(with_time, |rattle, rust| format!(", {:.1} / {:.1} each {name}", each(rattle), each(rust)));
+    }
+
+    /// What is said behind the instructions follows from those of both sides.
+    fn report_with(&self, with_time: bool, more: impl Fn(u64, u64) -> String) {
         let driver = self.instructions(self.idle);
         let rattle = self.instructions(self.rattle) - driver;
         let rust = self.instructions(self.rust) - driver;
         let ratio = rattle as f64 / rust as f64;
-        print!("{:<24} instructions {ratio:.3} ({rattle} / {rust})", self.name);
+        print!("{:<24} instructions {ratio:.3} ({rattle} / {rust}){}", self.name, more(rattle, rust));
         if with_time {
             let ratios = self.ratios_of_time();
             print!("  time {:.3} (quartiles {:.3} {:.3})", ratios[10], ratios[5], ratios[15]);

@@ -1,7 +1,8 @@
 //! The jobs of which each round does one.
 use crate::hostile;
+use harness::captures::{hostile as hostile_captures, Turn};
 use harness::compare::read::Outcome;
-use harness::compare::{difference, file, format, pick, read, rewrite};
+use harness::compare::{difference, file, flux, format, pick, read, rewrite};
 use harness::files::{self, hostile as hostile_files, Contents};
 use harness::reference::rewrite::{request, Plan};
 use harness::rng::Rng;
@@ -37,13 +38,14 @@ fn fields(rng: &mut Rng, track: Track) -> Vec<u8> {
 
 /// The work of one round.
 pub fn any(rng: &mut Rng) -> Vec<Tally> {
-    match rng.below(11) {
+    match rng.below(12) {
         0 => formatted(rng),
         1..=4 => vec![captured(rng)],
         5 | 6 => rewritten(rng),
         7 => two_passes(rng),
         8 | 9 => hostile::calls(rng),
-        _ => sent(rng),
+        10 => sent(rng),
+        _ => stamped(rng),
     }
 }
 
@@ -162,6 +164,33 @@ fn sent(rng: &mut Rng) -> Vec<Tally> {
         file::write(&mut tallies[1], rng, &contents, area);
         let file = hostile_file(rng);
         file::read(&mut tallies[2], rng, &file);
+    }
+    tallies.into()
+}
+
+/// Flux transitions come from the board: a track that is turned into cells and read, and captures that are not what they
+/// should be.
+fn stamped(rng: &mut Rng) -> Vec<Tally> {
+    const HOSTILE: usize = 20;
+    let (kind, hostile_capture) = hostile_captures::KINDS[rng.below(hostile_captures::KINDS.len())];
+    let mut tallies = ["tracks with jitter and drift", kind].map(|kind| Tally::new("flux", kind));
+    let track = tracks::EACH_MFM[rng.below(tracks::EACH_MFM.len())];
+    let (image, data, marks) = track.random(rng);
+    // where a cell has so many ticks, no interval leaves its band
+    let ticks = 100 + rng.below(925) as u32;
+    let (jitter, drift) = (rng.below(41) as u32, rng.below(1_001) as i32 - 400);
+    let turn = Turn { ticks, first: hostile_captures::first(rng), jitter, drift };
+    let capture = turn.capture(rng, &image);
+    let call = flux::Call::new(rng, &capture, image.len());
+    let outcome = flux::compare(&mut tallies[0], rng, &call);
+    assert!(outcome.image == image, "{}, not the track's cells: {turn:?}", outcome.number);
+    let expected = Outcome::of_contents(track, &data, &marks);
+    assert_eq!(Outcome::of_image(track, &outcome.image), expected, "what is read: {turn:?}");
+    for _ in 0..HOSTILE {
+        let capture = hostile_capture(rng);
+        let length = hostile_captures::room(rng, capture.cells().unwrap_or(3 * capture.stamps.len()));
+        let call = flux::Call::new(rng, &capture, length);
+        flux::compare(&mut tallies[1], rng, &call);
     }
     tallies.into()
 }

@@ -1,8 +1,10 @@
 //! Writes the kept vectors and the samples: `vectors FOLDER` fills FOLDER/vectors and FOLDER/samples. What the program
 //! has to print for a vector comes from the reference, and the literal reader has to agree; so do the records, which the
-//! program does not print in full. FOLDER/vectors/EDC has runs of bytes, each behind its EDC, and FOLDER/vectors/files has
-//! files of read cartridges, with what the reading answers in its INDEX.
+//! program does not print in full. FOLDER/vectors/EDC has runs of bytes, each behind its EDC, FOLDER/vectors/files has files
+//! of read cartridges, with what the reading answers in its INDEX, and FOLDER/vectors/flux has captures for the program that
+//! turns them into tracks.
 mod files;
+mod flux;
 mod kept;
 mod letters;
 mod runs;
@@ -10,13 +12,14 @@ mod samples;
 
 use harness::files::{numbers, Contents};
 use harness::reference::dump::{dump, dump_by, records_by};
-use harness::reference::{annex, edc, file, plain, plain_file, read};
+use harness::reference::flux_track::{flux_track, flux_track_by};
+use harness::reference::{annex, edc, file, plain, plain_file, plain_flux, read};
 use harness::station::Sections;
 use std::error::Error;
 use std::fs;
 use std::path::Path;
 
-/// An input for the program that prints a track, or a file, and what it shows.
+/// An input for the program that prints a track or for the one that makes a track of a capture, or a file, and what it shows.
 pub struct Vector {
     pub shows: String,
     pub input: Vec<u8>,
@@ -40,11 +43,16 @@ fn main() -> Result<(), Box<dyn Error>> {
     fs::write(folder.join("vectors/EDC"), &runs)?;
     println!("{} runs of bytes with their EDC", runs.lines().count());
     keep_files(&folder.join("vectors/files"))?;
+    keep_captures(&folder.join("vectors/flux"))?;
 
     fs::create_dir_all(folder.join("samples"))?;
     for (name, input) in samples::all() {
         fs::write(folder.join("samples").join(name), &input)?;
         println!("{name}:\n{}", printed(&input));
+    }
+    for (name, input) in samples::captures() {
+        fs::write(folder.join("samples").join(name), &input)?;
+        println!("{name}:\n{}", told(&made(&input)));
     }
     let cartridge = samples::cartridge();
     fs::write(folder.join("samples/cartridge.file"), written(&cartridge))?;
@@ -63,6 +71,37 @@ fn keep_files(folder: &Path) -> Result<(), Box<dyn Error>> {
     fs::write(folder.join("INDEX"), &index)?;
     println!("{} files", index.lines().count());
     Ok(())
+}
+
+/// Each capture, and what the program makes of it.
+fn keep_captures(folder: &Path) -> Result<(), Box<dyn Error>> {
+    let mut index = String::new();
+    fs::create_dir_all(folder)?;
+    for (number, Vector { shows, input }) in flux::all().into_iter().enumerate() {
+        let place = folder.join(format!("{number:04}"));
+        fs::write(place.with_extension("in"), &input)?;
+        fs::write(place.with_extension("out"), made(&input))?;
+        index += &format!("{number:04} {shows}\n");
+    }
+    fs::write(folder.join("INDEX"), &index)?;
+    println!("{} captures", index.lines().count());
+    Ok(())
+}
+
+/// The track of a capture, or the refusal.
+fn made(input: &[u8]) -> Vec<u8> {
+    let made = flux_track(input);
+    assert!(made == flux_track_by(plain_flux::flux, input), "the reference and the literal version");
+    made
+}
+
+/// What a track holds, or the refusal that stands in its place.
+fn told(track: &[u8]) -> String {
+    if track.starts_with(b"refused ") {
+        String::from_utf8_lossy(track).into_owned()
+    } else {
+        printed(track)
+    }
 }
 
 /// The number of a file's reading, then place and count of each section.

@@ -1,7 +1,10 @@
 //! A few tracks to try the program on, and a file of some: what a bench meets.
+use crate::flux::dropout;
+use harness::captures::Turn;
 use harness::files::{entry, Contents};
 use harness::reference::read::read;
 use harness::reference::records::has_bytes;
+use harness::rng::Rng;
 use harness::station::Reading;
 use harness::tracks::damage::turn;
 use harness::tracks::letters::lay;
@@ -25,6 +28,15 @@ pub fn all() -> Vec<(&'static str, Vec<u8>)> {
         ("defect.in", TRACK.input(&defect())),
         ("forbidden.in", FM.input(&forbidden())),
     ]
+}
+
+/// What the board makes of the clean track on a drive that slows down a little, its counter running over half way round; and
+/// the beginning of that, with a transition lost.
+pub fn captures() -> [(&'static str, Vec<u8>); 2] {
+    let turn = Turn { ticks: 480, first: u32::MAX - 20_000_000, jitter: 30, drift: 25 };
+    let capture = turn.capture(&mut Rng::new(5), &TRACK.formatted(&program(), &[0xFB; 8]));
+    let short = dropout(capture.clone(), 1_000, 200);
+    [("capture.flux", capture.input(TRACK)), ("dropout.flux", short.input(TRACK))]
 }
 
 /// Part of a program for a milling machine, as long as a track.
