@@ -32,20 +32,23 @@ printf '\003\005\001' >"$out/empty.in" # a track without an image: refused
 # a capture that begins a turn before the track and ends in a block: that is less than a turn round all the same
 first=$root/samples/first-track.in
 { head -c 3 "$first" && head -c 10416 /dev/zero && tail -c +4 "$first" | head -c 4800; } >"$out/second-turn.in"
-for given in "$root"/samples/*.in "$out/empty.in" "$out/second-turn.in"; do
-    name=$(basename "$given" .in)
-    wanted=0 && [ "$name" != empty ] || wanted=1
+printf '\003\005\001\000\000\001\000' >"$out/no-stamps.flux"
+for given in "$root"/samples/*.in "$root"/samples/*.flux "$out/empty.in" "$out/second-turn.in" "$out/no-stamps.flux"; do
+    name=$(basename "$given") && name=${name%.*}
+    case $name in empty | dropout | no-stamps) wanted=1 ;; *) wanted=0 ;; esac
     for example in in-c in-rust; do
         status=0
         run_program "$out/$example" "$given" >"$out/$name.$example" || status=$?
-        counts $example "$name.in" $status $wanted diff -u "$root/examples/expected/$name.out" "$out/$name.$example"
+        counts $example "$(basename "$given")" $status $wanted diff -u "$root/examples/expected/$name.out" "$out/$name.$example"
     done
 done
 
 # what can't be read or written: status 2, nothing printed, and a line that says which file and why
 printf '\003\005' >"$out/short.in"
+head -c 2000 "$root/samples/capture.flux" >"$out/cut.flux"
 for example in in-c in-rust; do
-    for given in "$out/missing.in:No such file" "$out:s a directory" "$out/short.in:fewer than three bytes"; do
+    for given in "$out/missing.in:No such file" "$out:s a directory" "$out/short.in:fewer than three bytes" \
+        "$out/cut.flux:ends within a stamp"; do
         status=0
         run_program "$out/$example" "${given%%:*}" >"$out/printed" 2>"$out/said" || status=$?
         counts $example "${given%%:*}" $status 2 eval '[ ! -s "$out/printed" ] && grep -q "${given%%:*}.*${given##*:}" "$out/said"'

@@ -4,8 +4,10 @@
  *
  *     cc -std=c99 -Iinclude examples/c/main.c target/staticlib/libstation.a -o target/example
  *     target/example samples/worn.in
+ *     target/example samples/capture.flux
  *
- * The captured file has the layout, the cylinder and the side, one byte each, and then the track's image.
+ * The captured file has the layout, the cylinder and the side, one byte each, and then the track's image. One whose name ends in .flux has in its
+ * place the ticks of a nominal bit cell and the time stamps of the flux transitions, four bytes each, the most significant first.
  * Exit status: 0 all was printed; 1 a call was refused; 2 wrong words, or a file that can't be read or written.
  */
 #include "station.h"
@@ -26,13 +28,22 @@ static const struct {
 
 enum { BYTES = STATION_BYTES_1, AREA = STATION_SECTORS_1 * STATION_BYTES_1 };
 
+/* With one stamp more than this, since each interval is two cells at least, every capture is refused. */
+enum { MOST_STAMPS = 8 * STATION_LONGEST_IMAGE / 2, NUMBER = 4 };
+
 /* Large, so not on the stack. The library itself keeps nothing: all that it works on is lent by the caller. */
-static uint8_t file[3 + STATION_LONGEST_IMAGE + 1], area[STATION_LONGEST_AREA], image[STATION_IMAGE_1];
-static uint8_t data[STATION_LONGEST_AREA], sent[STATION_LONGEST_FILE];
+static uint8_t file[3 + NUMBER * (1 + MOST_STAMPS + 1)], area[STATION_LONGEST_AREA], image[STATION_IMAGE_1];
+static uint8_t captured[STATION_LONGEST_IMAGE + 1], data[STATION_LONGEST_AREA], sent[STATION_LONGEST_FILE];
+static uint32_t stamps[MOST_STAMPS + 1];
 
 /* Only 1, 2 and 3 come with bytes, those of 3 being F and zeros; in every other case the slot is zeros, which must not be taken for data. */
 static int has_bytes(uint32_t answer) {
     return answer == STATION_ANSWER_DATA || answer == STATION_ANSWER_CONTROL || answer == STATION_ANSWER_DEFECTIVE;
+}
+
+static int is_flux(const char *path) {
+    const char *end = strrchr(path, '.');
+    return end != NULL && strcmp(end, ".flux") == 0;
 }
 
 /* Says why where the file can't be read. */
@@ -40,13 +51,15 @@ static int read_file(const char *path, size_t *length) {
     FILE *stream = fopen(path, "rb");
     const char *why = NULL;
     errno = stream == NULL ? errno : 0;
-    /* room for one byte too many: a file that is too long is then refused, where a cut one would be read */
+    /* room for more than an image or a capture can have: a file that is too long is then refused, where a cut one would be read */
     if (stream == NULL)
         why = strerror(errno);
     else if ((*length = fread(file, 1, sizeof file, stream)) < sizeof file && ferror(stream))
         why = strerror(errno);
     else if (*length < 3)
         why = "it has fewer than three bytes";
+    else if (is_flux(path) && *length > 3 + NUMBER && (*length - 3) % NUMBER != 0)
+        why = "it ends within a stamp";
     if (why != NULL)
         fprintf(stderr, "example: can't read %s: %s\n", path, why);
     if (stream != NULL)
@@ -118,13 +131,42 @@ static int file_captured(const struct station_record *records, size_t sectors, s
     return 1;
 }
 
+static uint32_t number_at(size_t at) {
+    return (uint32_t)file[at] << 24 | (uint32_t)file[at + 1] << 16 | (uint32_t)file[at + 2] << 8 | file[at + 3];
+}
+
+/* Makes the captured image of the stamps in the file, and gives how many bytes hold cells; 0 where it is refused. */
+static size_t image_of_stamps(size_t length) {
+    size_t count = (length - 3) / NUMBER, i;
+    /* without ticks they are out of range */
+    uint32_t ticks = count > 0 ? number_at(3) : 0;
+    struct station_flux_result result;
+    uint8_t number;
+    for (i = 1; i < count; i++)
+        stamps[i - 1] = number_at(3 + NUMBER * i);
+    number = station_flux(ticks, stamps, count > 0 ? count - 1 : 0, captured, STATION_LONGEST_IMAGE, &result);
+    if (number == STATION_REFUSED_FLUX_NO_BAND)
+        printf("interval %lu is in no band\n", (unsigned long)result.interval);
+    if (refused("the capture", number))
+        return 0;
+    printf("%lu flux transitions give %lu cells\n", (unsigned long)count - 1, (unsigned long)result.cells);
+    return (size_t)(result.cells + 7) / 8;
+}
+
+/* The image as the file has it, cut where it is too long to be read in any case. */
+static size_t image_of_file(size_t length) {
+    size_t bytes = length - 3 < sizeof captured ? length - 3 : sizeof captured;
+    memcpy(captured, file + 3, bytes);
+    return bytes;
+}
+
 static int show_captured(size_t length) {
     uint32_t layout = file[0], cylinder = file[1], side = file[2], counts[2];
     struct station_record records[STATION_MOST_SECTORS];
     /* the file may say anything: a layout that there is not is left to the library, which refuses it */
     int known = layout < STATION_LAYOUTS;
     size_t sector, sectors = known ? LAYOUTS[layout].sectors : 0, bytes = known ? LAYOUTS[layout].bytes : 0;
-    if (refused("the captured track", station_read(layout, cylinder, side, file + 3, length - 3, area, sectors * bytes, records, counts)))
+    if (refused("the captured track", station_read(layout, cylinder, side, captured, length, area, sectors * bytes, records, counts)))
         return 0;
     printf("captured: layout %u, cylinder %u, side %u\n", (unsigned)layout, (unsigned)cylinder, (unsigned)side);
     for (sector = 1; sector <= sectors; sector++)
@@ -176,12 +218,16 @@ int main(int count, char **words) {
     size_t length;
     int served;
     if (count != 2) {
-        fprintf(stderr, "usage: example FILE: layout, cylinder and side, one byte each, then the track's image\n");
+        fprintf(stderr, "usage: example FILE: layout, cylinder and side, one byte each, then the track's image, or with .flux ticks and stamps\n");
         return 2;
     }
     if (!read_file(words[1], &length))
         return 2;
-    served = show_captured(length) && rewrite_in_memory();
+    if (is_flux(words[1]))
+        served = (length = image_of_stamps(length)) > 0;
+    else
+        served = 1, length = image_of_file(length);
+    served = served && show_captured(length) && rewrite_in_memory();
     if (fflush(stdout) != 0 || ferror(stdout)) {
         fprintf(stderr, "example: the output could not be written: %s\n", strerror(errno));
         return 2;

@@ -3,8 +3,11 @@
 //!
 //!     rustc --edition 2021 -L native=target/staticlib examples/rust/main.rs -o target/example
 //!     target/example samples/worn.in
+//!     target/example samples/capture.flux
 //!
-//! The captured file has the layout, the cylinder and the side, one byte each, and then the track's image.
+//! The captured file has the layout, the cylinder and the side, one byte each, and then the track's image. One whose name
+//! ends in .flux has in its place the ticks of a nominal bit cell and the time stamps of the flux transitions, four bytes
+//! each, the most significant first.
 //! Exit status: 0 all was printed; 1 a call was refused; 2 wrong words, or a file that can't be read or written.
 use std::fmt::{self, Display};
 use std::io::{self, Read, Write};
@@ -14,11 +17,20 @@ use std::process::ExitCode;
 #[path = "../../include/station.rs"]
 mod station;
 
-use station::{Layout, Reading, Record, Sections, DATA_MARK, LAYOUTS, LONGEST_FILE, LONGEST_IMAGE, NO_PLACE};
+use station::{FluxResult, Layout, Reading, Record, Sections};
+use station::{DATA_MARK, LAYOUTS, LONGEST_FILE, LONGEST_IMAGE, NO_PLACE};
 
 /// Answers to which a bench does something of its own: a planned defect, and on cylinder 0 a letter that may not stand there.
 const DEFECTIVE: u32 = 3;
 const FORBIDDEN_LETTER: u32 = 27;
+
+/// The refusal that tells of an interval.
+const NO_BAND: u8 = 43;
+
+/// The bytes of the ticks and of each stamp. With one stamp more than this, since each interval is two cells at least, every
+/// capture is refused.
+const NUMBER: usize = 4;
+const MOST_STAMPS: usize = 8 * LONGEST_IMAGE / 2;
 
 /// Why the program ends early.
 enum Failure {
@@ -138,6 +150,23 @@ fn file_captured(out: &mut impl Write, track: Track, area: &[u8], records: &[Rec
     Ok(())
 }
 
+/// The image of a capture: its cells, and no byte behind them.
+fn image_of_stamps(out: &mut impl Write, capture: &[u8]) -> Result<Vec<u8>, Failure> {
+    let number = |bytes: &[u8]| u32::from_be_bytes(bytes.try_into().expect("four bytes"));
+    let numbers: Vec<u32> = capture.chunks_exact(NUMBER).map(number).collect();
+    // without ticks they are out of range
+    let (ticks, stamps) = numbers.split_first().map_or((0, &[][..]), |(&ticks, stamps)| (ticks, stamps));
+    let (mut image, mut result) = (vec![0; LONGEST_IMAGE], FluxResult::default());
+    let number = station::flux(ticks, stamps, &mut image, &mut result);
+    if number == NO_BAND {
+        writeln!(out, "interval {} is in no band", result.interval)?;
+    }
+    served("the capture", number)?;
+    writeln!(out, "{} flux transitions give {} cells", stamps.len(), result.cells)?;
+    image.truncate((result.cells as usize + 7) / 8);
+    Ok(image)
+}
+
 fn show_captured(out: &mut impl Write, track: Track, image: &[u8]) -> Result<(), Failure> {
     let (area, reading) = track.read("the captured track", image)?;
     writeln!(out, "captured: layout {}, cylinder {}, side {}", track.layout, track.cylinder, track.side)?;
@@ -183,15 +212,22 @@ fn rewrite_in_memory(out: &mut impl Write) -> Result<(), Failure> {
     Ok(())
 }
 
-/// The file's bytes: one more than the longest image has is enough, since a file that is too long is then refused, where a
-/// cut one would be read.
+fn is_flux(path: &Path) -> bool {
+    path.extension().map_or(false, |ending| ending == "flux")
+}
+
+/// The file's bytes: more than an image or a capture can have is enough, since a file that is too long is then refused,
+/// where a cut one would be read.
 fn file(path: &Path) -> io::Result<Vec<u8>> {
     let mut bytes = Vec::new();
-    std::fs::File::open(path)?.take(3 + LONGEST_IMAGE as u64 + 1).read_to_end(&mut bytes)?;
-    if bytes.len() < 3 {
-        return Err(io::Error::new(io::ErrorKind::UnexpectedEof, "it has fewer than three bytes"));
+    let most = 3 + NUMBER * (1 + MOST_STAMPS + 1);
+    std::fs::File::open(path)?.take(most as u64).read_to_end(&mut bytes)?;
+    let cut = |why: &str| Err(io::Error::new(io::ErrorKind::UnexpectedEof, why));
+    match bytes.len() {
+        0..=2 => cut("it has fewer than three bytes"),
+        length if is_flux(path) && length > 3 + NUMBER && (length - 3) % NUMBER != 0 => cut("it ends within a stamp"),
+        _ => Ok(bytes),
     }
-    Ok(bytes)
 }
 
 fn main() -> ExitCode {
@@ -199,7 +235,8 @@ fn main() -> ExitCode {
     let path = match &words[..] {
         [path] => Path::new(path),
         _ => {
-            eprintln!("usage: example FILE: layout, cylinder and side, one byte each, then the track's image");
+            eprint!("usage: example FILE: layout, cylinder and side, one byte each, then the track's image");
+            eprintln!(", or with .flux ticks and stamps");
             return ExitCode::from(2);
         }
     };
@@ -212,7 +249,8 @@ fn main() -> ExitCode {
     };
     let track = Track { layout: file[0].into(), cylinder: file[1].into(), side: file[2].into() };
     let out = &mut io::stdout();
-    match show_captured(out, track, &file[3..]).and_then(|()| rewrite_in_memory(out)) {
+    let image = if is_flux(path) { image_of_stamps(out, &file[3..]) } else { Ok(file[3..].to_vec()) };
+    match image.and_then(|image| show_captured(out, track, &image)).and_then(|()| rewrite_in_memory(out)) {
         Ok(()) => ExitCode::SUCCESS,
         Err(failure @ Failure::Refused(..)) => match writeln!(out, "{failure}").and_then(|()| out.flush()) {
             Ok(()) => ExitCode::FAILURE,
