@@ -47,18 +47,19 @@ unfoldable pub total : List ℕ → ℕ
 total [] = 0
 total (x ∷ xs) = x + total xs
 
--- With T the ticks of the last eight intervals: x is from low × T to high × T, ends included.
+-- With T the ticks of the last eight accepted intervals: x is from low × T to high × T, ends included.
 unfoldable pub within : (low high T x : ℕ) → Bool
 within low high T x = leb (low * T) x && leb x (high * T)
 
--- The half cells of the interval I, by the band that it is in, with H the half cells of the last eight; 0 where it is in none.
+-- The half cells of the interval I, by the band that 100 × I × H is in, with H the half cells of the last eight (004, 4.5.2); 0 where it is in none.
 unfoldable pub band : (T H I : ℕ) → ℕ
 band T H I = let x = 100 * I * H in cond (within 160 240 T x) 2 (cond (within 260 330 T x) 3 (cond (within 370 450 T x) 4 0))
 
+-- The same, by the last eight accepted intervals: T and H are sums over them.
 abbrev pub halfCells : Recent → (interval : ℕ) → ℕ
 halfCells r interval = band (total (r .ticks)) (total (r .halves)) interval
 
--- The half cells of each interval, up to the first that is in no band.
+-- The half cells of each interval, up to the first that is in no band, which has 0. Only an accepted interval comes in among the last eight.
 unfoldable pub halvesFrom : Recent → (intervals : List ℕ) → List ℕ
 halvesFrom r [] = []
 halvesFrom r (i ∷ is) =

@@ -46,10 +46,12 @@ fn lay_intervals(ticks: u32, stamps: &[u32], image: &mut [u8]) -> Laid
     requires { ⌜ (1 ≤ length (now stamps)) × (1 ≤ length (now image)) ⌝ }
     ensures { λ r. ⌜ LaysIntervals ticks (now (stamps .entry)) (now (image .entry)) r (now (image .exit)) ⌝ }
 {
+    // at the start eight of one nominal cell each, which is two half cells
     let mut last_ticks = [ticks as u64; 8];
     let mut last_halves = [2u64; 8];
     let mut all_ticks = 8 * (ticks as u64);
     let mut all_halves: u64 = 16;
+    // the cell of the last 1, and the number of the next interval
     let mut place = 0;
     let mut number = 1;
     while number < stamps.len() {
