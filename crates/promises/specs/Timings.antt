@@ -107,6 +107,6 @@ CaptureReadsBack =
     → GivesFormat layout cylinder side contents marks before 0 image
     → layoutOf layout .mode ≡ Mfm
     → (ticks start : ℕ) → Halved ticks
-    → (refused : ℕ) (captured result : List ℕ) → GivesFlux ticks (nominal ticks start image) (length image) refused captured result
+    → (answer : ℕ) (captured result : List ℕ) → GivesFlux ticks (nominal ticks start image) (length image) answer captured result
     → (number : ℕ) (area records counts : List ℕ) → GivesRead layout cylinder side captured (layoutOf layout .«area_bytes») number area records counts
-    → (refused ≡ 0) × (captured ≡ image) × GivesBack (trackOf layout cylinder side) contents marks number area records counts
+    → (answer ≡ 0) × (captured ≡ image) × GivesBack (trackOf layout cylinder side) contents marks number area records counts

@@ -112,10 +112,10 @@ inside xs i one = go (ltb i (8 * length xs)) refl
     go false e = let z = cell-past xs i (ltb-false i (8 * length xs) e) in absurd (omega arith)
 
 pub capture-reads-back : CaptureReadsBack
-capture-reads-back layout cylinder side contents marks before image small f m ticks start even refused captured result p number area records counts r =
+capture-reads-back layout cylinder side contents marks before image small f m ticks start even answer captured result p number area records counts r =
     let steady = paced layout cylinder side contents marks before image f m in
     let bytes = are-bytes layout cylinder side contents marks before image f m in
-    let back = comes-back ticks start (length image) image even steady (inside image) refused captured result p in
+    let back = comes-back ticks start (length image) image even steady (inside image) answer captured result p in
     let same : captured ≡ image =
     p .leaves ∙ captured-is ticks start (length image) image even steady (inside image)
     ∙ same-image image bytes _ (same-cells ticks start (length image) image even steady (inside image)) in (
