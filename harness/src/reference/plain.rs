@@ -126,7 +126,7 @@ fn walk<const MARK: usize>(
 }
 
 /// Whether a cell of the image is 1.
-fn is_one(image: &[u8], cell: usize) -> bool {
+pub(super) fn is_one(image: &[u8], cell: usize) -> bool {
     image[cell / 8] >> (7 - cell % 8) & 1 == 1
 }
 
