@@ -39,7 +39,7 @@ c_test() { # 77 where there is no compiler for it
     mkdir -p "$here/target/c"
     strict="-std=c99 -Wall -Wextra -pedantic -Werror"
     # the header by itself with a record, a file's sections and a flux's result, in C and in C++
-    printf '#include "station.h"\n%s\n%s\n%s\n' 'struct station_record none = {STATION_ANSWER_NO_BLOCK, STATION_NO_PLACE};' \
+    printf '#include "station.h"\n%s\n%s\n%s\n' 'struct station_record none = {STATION_ANSWER_NO_BLOCK, STATION_NO_PLACE, 0};' \
         'struct station_sections of_no_track = {4, STATION_LONGEST_LABEL, 88, 0, 92, 0, 96, 0};' \
         'struct station_flux_result refused = {0, STATION_MOST_TICKS - STATION_LEAST_TICKS};' >"$here/target/c/header.c"
     kit_clang $strict -I"$root/include" -x c -fsyntax-only "$here/target/c/header.c" &&

@@ -50,7 +50,7 @@
  *   43  an interval in no band
  *   44  a cell past the end of the image
  *
- * A sector's record, from station_read in `records` and from station_pick in `record`, is its answer and its place. The answer:
+ * A sector's record, from station_read in `records` and from station_pick in `record`, is its answer, its place and its doubtful clocks. The answer:
  *
  *   1   a data record: the slot holds its bytes
  *   2   a control record: the slot holds its bytes
@@ -68,6 +68,12 @@
  *
  * The place is the cell at which the sector's data, control or open mark begins, the image's first cell being 0. It is there with 1, 2, 3 and 24
  * to 27. With 21 and 23 no such mark was found, and with 22 there may be several: the place is then 4,294,967,295, which no cell has.
+ *
+ * The doubtful clocks are the clock cells of the block, its N bytes and the two of its EDC, that differ from the mode's rule: in FM a clock cell is
+ * 1, in MFM it is 1 exactly if the data bits on both sides are ZERO, the bit before the first byte being the last of the mark that was found. Those of
+ * the mark do not count. There are 8 * (N + 2) at most. The number is there with 1, 2, 3 and 25 to 27, and changes no answer: a sector that answers 1
+ * or 2 and has some can be used, but its cartridge wears out and wants to be copied now. With 21, 23 and 24 no whole block was found, and with 22
+ * more than one identifier: the number is then 0. While a rewrite is under way (25) it says nothing of wear; after the last store it is 0.
  *
  * A file holds what was read of a cartridge, for another bench: four sections, each behind its count of four bytes, the most significant first.
  *
@@ -206,6 +212,7 @@ enum station_mark {
 struct station_record {
     uint32_t answer;
     uint32_t place;
+    uint32_t clocks;
 };
 
 /* The sections of a file: where each begins, past its count, the file's first byte being 0; and its count. */
@@ -258,11 +265,11 @@ uint8_t station_read(uint32_t layout, uint32_t cylinder, uint32_t side, const ui
 
 /*
  * Picks a sector from two passes over one track, each an area and the records that station_read gave with it (an answer whose number is no
- * answer's counts as 21, whatever the place beside it): from whichever pass answered 1, 2 or 3, the first before the second, so that a 3 of the
+ * answer's counts as 21, whatever stands beside it): from whichever pass answered 1, 2 or 3, the first before the second, so that a 3 of the
  * first goes before a 1 of the second, and never from both.
  * Gives the sector's answer. With 1, 2 or 3 `taken` gets the pass, 1 or 2, the first byte of the slot in that pass's area, and the slot's
  * length, and `record` the sector's record in that pass. Else it is the first pass's answer: `taken` gets zeros, and `record` the record in the
- * first pass. A place is handed on as it is. Refused 4 (only above 3), 9, 5: zeros in both.
+ * first pass. Place and doubtful clocks are handed on as they are. Refused 4 (only above 3), 9, 5: zeros in both.
  */
 uint8_t station_pick(uint32_t layout, uint32_t sector, const uint8_t *first, size_t first_length,
                      const struct station_record first_records[26], const uint8_t *second, size_t second_length,

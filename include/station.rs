@@ -123,13 +123,14 @@ pub const CONTROL_MARK: u8 = 0xF8;
 /// The place in a record with the answer 21, 22 or 23.
 pub const NO_PLACE: u32 = u32::MAX;
 
-/// A sector's record, station.h's `struct station_record`: its answer, and the cell at which its data, control or open
-/// mark begins.
+/// A sector's record, station.h's `struct station_record`: its answer, the cell at which its data, control or open mark
+/// begins, and how many clock cells of its block are doubtful.
 #[repr(C)]
 #[derive(Clone, Copy, Debug, Default, PartialEq, Eq)]
 pub struct Record {
     pub answer: u32,
     pub place: u32,
+    pub clocks: u32,
 }
 
 /// The most of a file, as station.h adds it up: bytes of the label, tracks, the bytes of one of them (cylinder, side,

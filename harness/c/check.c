@@ -44,11 +44,12 @@ void same_records(const char *file, int line, const char *what, const struct sta
                   size_t count) {
     size_t i = 0;
     made++;
-    while (i < count && got[i].answer == expected[i].answer && got[i].place == expected[i].place)
+    while (i < count && got[i].answer == expected[i].answer && got[i].place == expected[i].place && got[i].clocks == expected[i].clocks)
         i++;
     if (i < count && differs(file, line, what))
-        fprintf(stderr, "[%lu] is %lu at %lu, not %lu at %lu\n", (unsigned long)i, (unsigned long)got[i].answer, (unsigned long)got[i].place,
-                (unsigned long)expected[i].answer, (unsigned long)expected[i].place);
+        fprintf(stderr, "[%lu] is %lu at %lu with %lu doubtful clocks, not %lu at %lu with %lu\n", (unsigned long)i, (unsigned long)got[i].answer,
+                (unsigned long)got[i].place, (unsigned long)got[i].clocks, (unsigned long)expected[i].answer, (unsigned long)expected[i].place,
+                (unsigned long)expected[i].clocks);
 }
 
 void same_sections(const char *file, int line, const char *what, const struct station_sections *got, const struct station_sections *expected) {

@@ -23,7 +23,7 @@ static void with(uint8_t *nothing, const uint32_t *nowhere) {
     SAME(station_format(0, 0, 0, data, area, marks, 26, nothing, 0), STATION_REFUSED_IMAGE_LENGTH);
     SAME(station_read(0, 0, 0, nothing, 0, data, area, records, counts), STATION_REFUSED_IMAGE_LENGTH);
     SAME(station_read(0, 0, 0, image, track->image, nothing, 0, records, counts), STATION_REFUSED_AREA_LENGTH);
-    records[0] = record(STATION_ANSWER_DATA, 0);
+    records[0] = record(STATION_ANSWER_DATA, 0, 0);
     SAME(station_pick(0, 1, nothing, 0, records, data, area, records, taken, &picked), STATION_REFUSED_AREA_LENGTH);
     SAME(station_pick(0, 1, data, area, records, nothing, 0, records, taken, &picked), STATION_REFUSED_AREA_LENGTH);
     SAME(station_request(0, 0, 0, 1, 0xFB, nothing, 0, image, track->image, plan), STATION_REFUSED_AREA_LENGTH);

@@ -1,6 +1,7 @@
 #include "reads.h"
 
 #include "check.h"
+#include "clocks.h"
 
 #include <string.h>
 
@@ -18,7 +19,7 @@ struct expected whole(const struct track *track, const uint8_t *data, const uint
 }
 
 void gives(struct expected *expected, const struct track *track, size_t sector, uint32_t answer, uint32_t place) {
-    expected->records[sector - 1] = record(answer, place);
+    expected->records[sector - 1] = record(answer, place, 0);
     memset(expected->area + (sector - 1) * track->size, 0, track->size);
 }
 
@@ -31,10 +32,10 @@ void gives_block(struct expected *expected, const struct track *track, size_t se
         slot[0] = LETTER_F;
 }
 
-void reads(const struct track *track, const uint8_t *image, size_t image_length, size_t area_length, const struct expected *expected) {
+void reads_stated(const struct track *track, const uint8_t *image, size_t image_length, size_t area_length, const struct expected *expected) {
     uint8_t *area = lend(&room, area_length, 0x77);
     uint32_t counts[3] = {0xDEADBEEF, 0xDEADBEEF, 0xDEADBEEF};
-    struct station_record records[27], other = record(0x99999999, 0x88888888);
+    struct station_record records[27], other = record(0x99999999, 0x88888888, 0x77777777);
     size_t i;
     for (i = 0; i < 27; i++)
         records[i] = other;
@@ -46,4 +47,20 @@ void reads(const struct track *track, const uint8_t *image, size_t image_length,
     SAME_RECORDS(records + 26, &other, 1);
     SAME(counts[2], 0xDEADBEEF);
     ROOM_KEPT(&room);
+}
+
+/* Whether the answer says that a whole block was found behind the one identifier. */
+static int has_block(uint32_t answer) {
+    return answer == STATION_ANSWER_DATA || answer == STATION_ANSWER_CONTROL || answer == STATION_ANSWER_DEFECTIVE ||
+           answer == STATION_ANSWER_OPEN_MARK || answer == STATION_ANSWER_WRONG_EDC || answer == STATION_ANSWER_FORBIDDEN_LETTER;
+}
+
+void reads(const struct track *track, const uint8_t *image, size_t image_length, size_t area_length, const struct expected *expected) {
+    struct expected counted = *expected;
+    size_t i;
+    for (i = 0; i < 26; i++) {
+        struct station_record *told = &counted.records[i];
+        told->clocks = has_block(told->answer) ? block_clocks(track, image, told->place) : 0;
+    }
+    reads_stated(track, image, image_length, area_length, &counted);
 }

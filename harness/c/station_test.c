@@ -52,8 +52,10 @@ static void numbers(void) {
 /* A record is its numbers, one after the other; so are a file's sections, place and count of each in the order of the file; and so is a flux's
  * result. */
 static void structs(void) {
-    SAME(sizeof(struct station_record), 2 * sizeof(uint32_t));
+    SAME(sizeof(struct station_record), 3 * sizeof(uint32_t));
+    SAME(offsetof(struct station_record, answer), 0);
     SAME(offsetof(struct station_record, place), sizeof(uint32_t));
+    SAME(offsetof(struct station_record, clocks), 2 * sizeof(uint32_t));
     SAME(sizeof(struct station_sections), 8 * sizeof(uint32_t));
     SAME(offsetof(struct station_sections, label_place), 0);
     SAME(offsetof(struct station_sections, label_count), sizeof(uint32_t));

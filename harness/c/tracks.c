@@ -52,10 +52,11 @@ void fresh(const struct track *track, uint8_t *data, uint8_t *marks, uint8_t *im
          STATION_DONE);
 }
 
-struct station_record record(uint32_t answer, uint32_t place) {
+struct station_record record(uint32_t answer, uint32_t place, uint32_t clocks) {
     struct station_record made;
     made.answer = answer;
     made.place = place;
+    made.clocks = clocks;
     return made;
 }
 

@@ -42,7 +42,7 @@ void fill_marks(const struct track *track, uint8_t *marks);
 void fresh(const struct track *track, uint8_t *data, uint8_t *marks, uint8_t *image);
 
 /* A record of these numbers. */
-struct station_record record(uint32_t answer, uint32_t place);
+struct station_record record(uint32_t answer, uint32_t place, uint32_t clocks);
 
 /* The cell at which the mark of a sector begins on a formatted track. */
 uint32_t place_of(const struct track *track, size_t sector);

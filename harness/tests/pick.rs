@@ -1,8 +1,9 @@
 //! The pick from two passes: the reference against the papers (01, "Two passes"; 02, requests 01 and 04), and
 //! `station_pick` against the reference.
 use harness::compare::pick::{compare, Call, Outcome, Pass};
+use harness::compare::read::any_record;
 use harness::reference::pick::{pick, Pick};
-use harness::reference::records::{at, nowhere};
+use harness::reference::records::{at, doubtful, nowhere};
 use harness::rng::Rng;
 use harness::station::{Record, MOST_SECTORS, NO_PLACE};
 use harness::tally::met::{Row, ANSWERS};
@@ -20,8 +21,9 @@ fn first_before_second_before_neither() {
         let mut call = Call { layout: track.layout, sector: 1, first, second };
         for sector in 1..=layout.sectors {
             for (one, other) in ANSWERS.into_iter().flat_map(|one| ANSWERS.map(|other| (one, other))) {
-                // the passes' own places, so that one is not taken for the other
-                let (one, other) = (at(one.into(), 1_000 + sector), at(other.into(), 2_000 + sector));
+                // the passes' own places and clocks, so that one is not taken for the other
+                let one = doubtful(one.into(), 1_000 + sector, 3_000 + sector as u32);
+                let other = doubtful(other.into(), 2_000 + sector, 4_000 + sector as u32);
                 call.first.records = [nowhere(22); MOST_SECTORS];
                 call.second.records = [nowhere(22); MOST_SECTORS];
                 (call.first.records[sector - 1], call.second.records[sector - 1]) = (one, other);
@@ -49,44 +51,46 @@ fn first_before_second_before_neither() {
 /// and none of a refused call.
 #[test]
 fn the_record_that_is_handed_on() {
-    // the passes' own places
-    const ONE: u32 = 8 * 404;
-    const TWO: u32 = 8 * 404 + 1;
+    // the passes' own places and clocks
+    const ONE: [u32; 2] = [8 * 404, 5];
+    const TWO: [u32; 2] = [8 * 404 + 1, 7];
+    const NONE: [u32; 2] = [NO_PLACE, 0];
     let mut rng = Rng::new(5);
     let mut tally = Tally::new("pick", "the record that is handed on");
     let (right, short) = (26 * 256, 26 * 256 - 1);
     // both passes' records and the length of the second area; number, what is taken, the record
     let cases = [
-        ([[1, ONE], [2, TWO]], right, 1, [1, 512, 256], [1, ONE]),
-        ([[2, 0], [26, TWO]], right, 2, [1, 512, 256], [2, 0]),
-        ([[26, ONE], [2, TWO]], right, 2, [2, 512, 256], [2, TWO]),
-        ([[24, ONE], [23, NO_PLACE]], right, 24, [0, 0, 0], [24, ONE]),
-        ([[21, NO_PLACE], [25, TWO]], right, 21, [0, 0, 0], [21, NO_PLACE]),
+        ([(1, ONE), (2, TWO)], right, 1, [1, 512, 256], (1, ONE)),
+        ([(2, [0; 2]), (26, TWO)], right, 2, [1, 512, 256], (2, [0; 2])),
+        ([(26, ONE), (2, TWO)], right, 2, [2, 512, 256], (2, TWO)),
+        ([(24, ONE), (23, NONE)], right, 24, [0, 0, 0], (24, ONE)),
+        ([(21, NONE), (25, TWO)], right, 21, [0, 0, 0], (21, NONE)),
         // H8: a defective area of the first pass goes before what the second has, and 27 has nothing
-        ([[3, ONE], [1, TWO]], right, 3, [1, 512, 256], [3, ONE]),
-        ([[3, ONE], [2, TWO]], right, 3, [1, 512, 256], [3, ONE]),
-        ([[1, ONE], [3, TWO]], right, 1, [1, 512, 256], [1, ONE]),
-        ([[26, ONE], [3, TWO]], right, 3, [2, 512, 256], [3, TWO]),
-        ([[27, ONE], [3, TWO]], right, 3, [2, 512, 256], [3, TWO]),
-        ([[27, ONE], [2, TWO]], right, 2, [2, 512, 256], [2, TWO]),
-        ([[27, ONE], [26, TWO]], right, 27, [0, 0, 0], [27, ONE]),
-        ([[26, ONE], [27, TWO]], right, 26, [0, 0, 0], [26, ONE]),
-        // no answer's number is handed on as 21, and the place as it is
-        ([[257, ONE], [258, TWO]], right, 21, [0, 0, 0], [21, ONE]),
-        ([[4, ONE], [259, TWO]], right, 21, [0, 0, 0], [21, ONE]),
-        ([[28, ONE], [27, TWO]], right, 21, [0, 0, 0], [21, ONE]),
-        ([[0, 0], [26, TWO]], right, 21, [0, 0, 0], [21, 0]),
-        ([[u32::MAX, ONE], [1, NO_PLACE]], right, 1, [2, 512, 256], [1, NO_PLACE]),
-        ([[1, ONE], [1, TWO]], short, 5, [0, 0, 0], [0, 0]),
-        ([[26, ONE], [23, NO_PLACE]], short, 5, [0, 0, 0], [0, 0]),
+        ([(3, ONE), (1, TWO)], right, 3, [1, 512, 256], (3, ONE)),
+        ([(3, ONE), (2, TWO)], right, 3, [1, 512, 256], (3, ONE)),
+        ([(1, ONE), (3, TWO)], right, 1, [1, 512, 256], (1, ONE)),
+        ([(26, ONE), (3, TWO)], right, 3, [2, 512, 256], (3, TWO)),
+        ([(27, ONE), (3, TWO)], right, 3, [2, 512, 256], (3, TWO)),
+        ([(27, ONE), (2, TWO)], right, 2, [2, 512, 256], (2, TWO)),
+        ([(27, ONE), (26, TWO)], right, 27, [0, 0, 0], (27, ONE)),
+        ([(26, ONE), (27, TWO)], right, 26, [0, 0, 0], (26, ONE)),
+        // no answer's number is handed on as 21, and the other two as they are
+        ([(257, ONE), (258, TWO)], right, 21, [0, 0, 0], (21, ONE)),
+        ([(4, ONE), (259, TWO)], right, 21, [0, 0, 0], (21, ONE)),
+        ([(28, ONE), (27, TWO)], right, 21, [0, 0, 0], (21, ONE)),
+        ([(0, [0; 2]), (26, TWO)], right, 21, [0, 0, 0], (21, [0; 2])),
+        ([(u32::MAX, ONE), (1, NONE)], right, 1, [2, 512, 256], (1, NONE)),
+        ([(1, ONE), (1, TWO)], short, 5, [0, 0, 0], (0, [0; 2])),
+        ([(26, ONE), (23, NONE)], short, 5, [0, 0, 0], (0, [0; 2])),
     ];
-    for ([one, other], length, number, taken, record) in cases {
-        let [one, other, record] = [one, other, record].map(|[answer, place]| Record { answer, place });
+    for ([one, other], length, number, taken, handed_on) in cases {
+        let record = |(answer, [place, clocks]): (u32, [u32; 2])| Record { answer, place, clocks };
+        let [one, other, handed_on] = [one, other, handed_on].map(record);
         let (mut first, mut second) = (Pass::all(tracks::MFM, 1, at(1, 1)), Pass::all(tracks::MFM, 2, at(2, 2)));
         (first.records[2], second.records[2]) = (one, other);
         second.area.resize(length, 2);
         let found = compare(&mut tally, &mut rng, &Call { layout: 1, sector: 3, first, second });
-        assert_eq!(found, Outcome { number, taken, record }, "{one:?} and {other:?}");
+        assert_eq!(found, Outcome { number, taken, record: handed_on }, "{one:?} and {other:?}");
     }
     tally.report();
 }
@@ -102,17 +106,16 @@ fn every_pair_of_numbers() {
     let numbers: Vec<u32> = (0..=0xFF).chain(high).chain([u32::MAX]).collect();
     for &one in &numbers {
         for &other in &numbers {
-            let places = [rng.bits() as u32, rng.bits() as u32];
-            call.first.records[7] = Record { answer: one, place: places[0] };
-            call.second.records[7] = Record { answer: other, place: places[1] };
-            // a number that is no answer's counts as 21
-            let (taken, answer, place) = match (one, other) {
-                (1..=3, _) => ([1, 7 * 128, 128], one, places[0]),
-                (_, 1..=3) => ([2, 7 * 128, 128], other, places[1]),
-                (21..=27, _) => ([0; 3], one, places[0]),
-                _ => ([0; 3], 21, places[0]),
+            let [first, second] = [one, other].map(|answer| Record { answer, ..any_record(&mut rng) });
+            (call.first.records[7], call.second.records[7]) = (first, second);
+            // a number that is no answer's counts as 21, and what stands beside it is handed on as it is
+            let (taken, record) = match (one, other) {
+                (1..=3, _) => ([1, 7 * 128, 128], first),
+                (_, 1..=3) => ([2, 7 * 128, 128], second),
+                (21..=27, _) => ([0; 3], first),
+                _ => ([0; 3], Record { answer: 21, ..first }),
             };
-            let expected = Outcome::new(taken, Record { answer, place });
+            let expected = Outcome::new(taken, record);
             assert_eq!(compare(&mut tally, &mut rng, &call), expected, "{one} and {other}");
         }
     }

@@ -34,12 +34,14 @@ fn kept_vectors() {
         assert_eq!(records_by(station::read, &input), records, "records: {line}");
         assert_eq!(records_by(read::read, &input), records, "the reference's records: {line}");
         assert_eq!(records_by(plain::read, &input), records, "the literal reader's records: {line}");
-        // `sector answer place`
-        let sectors = records.lines().filter(|record| !record.starts_with("refused"));
-        answers.extend(sectors.filter_map(|record| record.split(' ').nth(1)?.parse::<u8>().ok()));
+        // `sector answer place clocks`
+        for record in records.lines().filter(|record| !record.starts_with("refused")) {
+            let numbers: Vec<u32> = record.split(' ').map(|number| number.parse().expect("a number")).collect();
+            answers.insert(numbers[1]);
+        }
         tally.input();
     }
-    assert!(answers.into_iter().eq(ANSWERS), "the answers of the kept vectors");
+    assert!(answers.into_iter().eq(ANSWERS.map(u32::from)), "the answers of the kept vectors");
     tally.report();
 }
 

@@ -1,4 +1,5 @@
--- What a sector's record holds: what it answers, with the papers' numbers (01, "How a track is read"; 02, Req 04), and its place (02, Req 01).
+-- What a sector's record holds: what it answers, with the papers' numbers (01, "How a track is read"; 02, Req 04), its place (02, Req 01), and how many
+-- clock cells of its block's bytes are doubtful (02, Req 06).
 use mathlib.Core.Bool.{Bool, true, false, cond}
 use mathlib.Core.List.{List, [], _∷_}
 use Prim.Native.Nat.{ℕ, _-_}
@@ -74,9 +75,14 @@ unanswered = record { answer = Refused NoIdentifier }
 
 -- The records of a track of which nothing is known.
 abbrev pub unreadRecords : Records
-unreadRecords = record { answers = replicate mostSectors unanswered; places = replicate mostSectors noPlace }
+unreadRecords =
+    record { answers = replicate mostSectors unanswered; places = replicate mostSectors noPlace; clocks = replicate mostSectors 0 }
 
 -- The record of a sector. There is one for every sector number that passes.
 abbrev pub recordAt : Records → ℕ → Record
 recordAt records sector =
-    record { answer = getD (records .answers) (sector - 1) unanswered .answer; place = getD (records .places) (sector - 1) 0 }
+    record {
+      answer = getD (records .answers) (sector - 1) unanswered .answer;
+      place = getD (records .places) (sector - 1) 0;
+      clocks = getD (records .clocks) (sector - 1) 0;
+    }

@@ -1,4 +1,5 @@
-// What a sector answers and where its mark is: its record, the numbers that the papers give the answers, and what a whole block answers.
+// What a sector answers, where its mark is and how many of its clock cells are doubtful: its record; the numbers that the papers give the answers,
+// and what a whole block answers.
 use calls::LETTER_D;
 use layouts::MOST_SECTORS;
 use marks::Mark;
@@ -49,6 +50,8 @@ pub struct Record {
     pub answer: Answer,
     // the cell at which its data, control or open mark begins; NO_PLACE for 21, 22 and 23
     pub place: u32,
+    // how many clock cells of its block's bytes are doubtful; 0 for 21, 22, 23 and 24
+    pub clocks: u32,
 }
 
 // What one sector answers, where the answers of all stand in a list.
@@ -61,6 +64,7 @@ pub struct Answered {
 pub struct Records {
     pub answers: [Answered; MOST_SECTORS],
     pub places: [u32; MOST_SECTORS],
+    pub clocks: [u32; MOST_SECTORS],
 }
 
 // The records of a track of which nothing is known.
@@ -73,6 +77,7 @@ pub fn unread_records() -> Records
     Records {
         answers: [unanswered; MOST_SECTORS],
         places: [NO_PLACE; MOST_SECTORS],
+        clocks: [0; MOST_SECTORS],
     }
 }
 

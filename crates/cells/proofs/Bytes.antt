@@ -32,6 +32,13 @@ module _ (c : ℕ → ℕ) where
       let e : p + 16 * suc n ≡ p + 16 + 16 * n = omega arith in
       rw (suc-add n m, e, data-append (p + 16) n m)
 
+  -- one of n bytes
+  pub data-at : (p n i : ℕ) → i < n → getD (dataBytes c p n) i 0 ≡ dataByte c (p + 16 * i)
+  unfolding dataBytes
+  data-at p zero i h = absurd (omega arith)
+  data-at p (suc n) zero h = ap (dataByte c) (omega arith)
+  data-at p (suc n) (suc i) h = data-at (p + 16) n i (omega arith) ∙ ap (dataByte c) (omega arith)
+
   -- what is left of n bytes at byte i, whose first cell is q
   pub data-step : (q i n : ℕ) → i < n → dataBytes c q (n - i) ≡ dataByte c q ∷ dataBytes c (q + 16) (n - (i + 1))
   unfolding dataBytes

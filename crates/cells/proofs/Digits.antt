@@ -4,6 +4,17 @@ use Prim.Native.Nat.{ℕ, _+_, _*_, _/_, _%_, _<_}
 use native.Mathlib.Omega.{arith}
 use Rattle.cells.specs.Cells.{byteOf}
 
+-- The digits of a number are these eight.
+pub record Digits (x a b c d e f g h : ℕ) : Type 0 where
+  pub at7 : x / 128 % 2 ≡ a
+  pub at6 : x / 64 % 2 ≡ b
+  pub at5 : x / 32 % 2 ≡ c
+  pub at4 : x / 16 % 2 ≡ d
+  pub at3 : x / 8 % 2 ≡ e
+  pub at2 : x / 4 % 2 ≡ f
+  pub at1 : x / 2 % 2 ≡ g
+  pub at0 : x % 2 ≡ h
+
 pub bit-lt : (x : ℕ) → x % 2 < 2
 bit-lt x = omega arith
 
@@ -19,6 +30,19 @@ module _ (a b c d e f g h : ℕ) (ha : a < 2) (hb : b < 2) (hc : c < 2) (hd : d 
 
   pub digit0 : byteOf a b c d e f g h % 2 ≡ h
   digit0 = omega arith
+
+  pub digits : Digits (byteOf a b c d e f g h) a b c d e f g h
+  digits =
+      record {
+        at7 = omega arith;
+        at6 = digit6;
+        at5 = omega arith;
+        at4 = digit4;
+        at3 = omega arith;
+        at2 = digit2;
+        at1 = omega arith;
+        at0 = digit0;
+      }
 
   pub byte-lt : byteOf a b c d e f g h < 256
   byte-lt = omega arith

@@ -1,13 +1,14 @@
 -- What the code reads is what the cells say: two bytes joined and shifted are the octet, and the data cells of two octets the data byte.
 use mathlib.Core.Path.{_≡_, sym, ap, ap₂, _∙_}
 use mathlib.Core.List.{List}
+use mathlib.Core.Logic.{⊎-elim}
 use Prim.Native.Nat.{ℕ, zero, suc, _+_, _-_, _*_, _/_, _%_, _^_, _<_, _≤_}
-use native.Mathlib.Nat.{mod-one, zero-add, add-zero, zero-mul, mul-one, suc-add, add-mul, mul-assoc, add-assoc, div-one}
+use native.Mathlib.Nat.{div-add-mod', eq-or-lt-of-le, mod-one, zero-add, add-zero, zero-mul, mul-one, suc-add, add-mul, mul-assoc, add-assoc, div-one}
 use native.Mathlib.Numerals.{one-add}
 use native.Mathlib.Omega.{arith}
 use lib.ListN.{getD}
 use lib.Pow.{mod-pow-add, shr-shr, pow-add}
-use Rattle.cells.proofs.Digits.{digit0, digit2, digit4, digit6}
+use Rattle.cells.proofs.Digits.{digit0, digit2, digit4, digit6, byte-lt}
 use Rattle.cells.specs.Cells.{cell, byteOf, octet, dataByte}
 
 -- Every cell is 0 or 1.
@@ -47,7 +48,7 @@ cells-add c (suc n) m i =
     rw (suc-add n m, e, cells-add c n m (i + 1), pow-add 2 n m, ← mul-assoc, ← add-assoc, ← add-mul)
 
 -- The eight cells that begin k cells into two bytes: the upper ones are of the first byte, the lower ones of the second.
-pub window : (a b k : ℕ) → a < 256 → b < 256 → k < 8 → (a * 256 + b) / 2 ^ (8 - k) % 256 ≡ a % 2 ^ (8 - k) * 2 ^ k + b / 2 ^ (8 - k) % 2 ^ k
+pub window : (a b k : ℕ) → a < 256 → b < 256 → k ≤ 8 → (a * 256 + b) / 2 ^ (8 - k) % 256 ≡ a % 2 ^ (8 - k) * 2 ^ k + b / 2 ^ (8 - k) % 2 ^ k
 window a b zero ha hb h = omega arith
 window a b (suc zero) ha hb h = omega arith
 window a b (suc (suc zero)) ha hb h = omega arith
@@ -56,7 +57,8 @@ window a b (suc (suc (suc (suc zero)))) ha hb h = omega arith
 window a b (suc (suc (suc (suc (suc zero))))) ha hb h = omega arith
 window a b (suc (suc (suc (suc (suc (suc zero)))))) ha hb h = omega arith
 window a b (suc (suc (suc (suc (suc (suc (suc zero))))))) ha hb h = omega arith
-window a b (suc (suc (suc (suc (suc (suc (suc (suc k)))))))) ha hb h = absurd (omega arith)
+window a b (suc (suc (suc (suc (suc (suc (suc (suc zero)))))))) ha hb h = omega arith
+window a b (suc (suc (suc (suc (suc (suc (suc (suc (suc k))))))))) ha hb h = absurd (omega arith)
 
 eight : (c : ℕ → ℕ) (i : ℕ) → cellsFrom c 8 i ≡ octet c i
 unfolding octet
@@ -66,7 +68,7 @@ eight c i = simp (add-assoc i) (omega arith)
 pub joined : (s : List ℕ) (i : ℕ) → getD s (i / 8) 0 < 256 → getD s (i / 8 + 1) 0 < 256
     → (getD s (i / 8) 0 * 256 + getD s (i / 8 + 1) 0) / 2 ^ (8 - i % 8) % 256 ≡ octet (cell s) i
 joined s i ha hb =
-    let k : i % 8 < 8 = omega arith in
+    let k : i % 8 ≤ 8 = omega arith in
     let e : 8 - i % 8 + i % 8 ≡ 8 = omega arith in
     let p : 8 - (i % 8 + (8 - i % 8)) ≡ 0 = omega arith in
     let q : (i + (8 - i % 8)) / 8 ≡ i / 8 + 1 = omega arith in
@@ -107,21 +109,6 @@ data-octets c bit p = rw (octet-nibble c bit p, octet-nibble c bit (p + 8)) (sim
 pub octet-read : (s : List ℕ) (i a b r : ℕ) → a < 256 → b < 256 → a ≡ getD s (i / 8) 0 → b ≡ getD s (i / 8 + 1) 0
     → r ≡ (a * 256 + b) / 2 ^ (8 - i % 8) % 256 → r ≡ octet (cell s) i
 octet-read s i a b r ha hb ea eb er = er ∙ rw (ea, eb) (joined s i (rw (← ea) ha) (rw (← eb) hb))
-
--- The data byte that begins k cells into the byte `at`: a, b and d are the three image bytes, x and y the windows.
-pub octets-read : (s : List ℕ) (at k a b d x y : ℕ) → k < 8 → a < 256 → b < 256 → d < 256
-    → a ≡ getD s at 0 → b ≡ getD s (at + 1) 0 → d ≡ getD s (at + 2) 0
-    → x ≡ (a * 256 + b) / 2 ^ (8 - k) % 256 → y ≡ (b * 256 + d) / 2 ^ (8 - k) % 256 → nibbleOf x * 16 + nibbleOf y ≡ dataByte (cell s) (8 * at + k)
-octets-read s at k a b d x y hk ha hb hd ea eb ed ex ey =
-    let i = 8 * at + k in
-    let p : i / 8 ≡ at = omega arith in
-    let q : (i + 8) / 8 ≡ at + 1 = omega arith in
-    let q2 : (i + 8) / 8 + 1 ≡ at + 2 = omega arith in
-    let m : i % 8 ≡ k = omega arith in
-    let n : (i + 8) % 8 ≡ k = omega arith in
-    let first = octet-read s i a b x ha hb (rw p ea) (rw p eb) (rw m ex) in
-    let second = octet-read s (i + 8) b d y hb hd (rw q eb) (rw q2 ed) (rw n ey) in
-    rw (first, second) (data-octets (cell s) (cell-lt s) i)
 
 -- The data cells of sixteen cells, as the code takes them out, are those of the two octets.
 abbrev dataOf : ℕ → ℕ
@@ -168,13 +155,34 @@ fourth-falls x e (suc (suc (suc (suc (suc (suc zero)))))) he h = omega arith
 fourth-falls x e (suc (suc (suc (suc (suc (suc (suc zero))))))) he h = omega arith
 fourth-falls x e (suc (suc (suc (suc (suc (suc (suc (suc k)))))))) he h = absurd (omega arith)
 
--- The data byte that begins k cells into the byte `at`, as the code reads it: a, b and d are the three image bytes, w the sixteen cells.
-pub data-read : (s : List ℕ) (at k a b d w : ℕ) → k < 8 → a < 256 → b < 256 → d < 256
+-- The sixteen cells that begin k cells into the byte `at`, as the code reads them: a, b and d are the three image bytes.
+pub sixteen-read : (s : List ℕ) (at k a b d w : ℕ) → k < 8 → a < 256 → b < 256 → d < 256
     → a ≡ getD s at 0 → b ≡ getD s (at + 1) 0 → d ≡ getD s (at + 2) 0
-    → w ≡ (a * 65536 + b * 256 + d) / 2 ^ (8 - k) % 65536 → dataOf w ≡ dataByte (cell s) (8 * at + k)
-data-read s at k a b d w hk ha hb hd ea eb ed ew =
+    → w ≡ (a * 65536 + b * 256 + d) / 2 ^ (8 - k) % 65536 → w ≡ octet (cell s) (8 * at + k) * 256 + octet (cell s) (8 * at + k + 8)
+sixteen-read s at k a b d w hk ha hb hd ea eb ed ew =
     let each = wide-window a b d k ha hb hd hk in
-    data-halves w ∙ octets-read s at k a b d (w / 256) (w % 256) hk ha hb hd ea eb ed (rw ew (each .0)) (rw ew (each .1))
+    let i = 8 * at + k in
+    let p : i / 8 ≡ at = omega arith in
+    let q : (i + 8) / 8 ≡ at + 1 = omega arith in
+    let q2 : (i + 8) / 8 + 1 ≡ at + 2 = omega arith in
+    let m : i % 8 ≡ k = omega arith in
+    let n : (i + 8) % 8 ≡ k = omega arith in
+    let first = octet-read s i a b (w / 256) ha hb (rw p ea) (rw p eb) (rw m (rw ew (each .0))) in
+    let second = octet-read s (i + 8) b d (w % 256) hb hd (rw q eb) (rw q2 ed) (rw n (rw ew (each .1))) in
+    rw (← first, ← second) (sym (div-add-mod' w 256))
+
+pub octet-lt : (c : ℕ → ℕ) → ((i : ℕ) → c i < 2) → (p : ℕ) → octet c p < 256
+unfolding octet
+octet-lt c bit p =
+    byte-lt (c p) (c (p + 1)) (c (p + 2)) (c (p + 3)) (c (p + 4)) (c (p + 5)) (c (p + 6)) (c (p + 7))
+    (bit p) (bit (p + 1)) (bit (p + 2)) (bit (p + 3)) (bit (p + 4)) (bit (p + 5)) (bit (p + 6)) (bit (p + 7))
+
+-- Their data cells, as the code takes them out, are the data byte.
+pub sixteen-data : (c : ℕ → ℕ) → ((i : ℕ) → c i < 2) → (p w : ℕ) → w ≡ octet c p * 256 + octet c (p + 8) → dataOf w ≡ dataByte c p
+sixteen-data c bit p w e =
+    let h : w / 256 ≡ octet c p = omega (arith, e, octet-lt c bit (p + 8)) in
+    let l : w % 256 ≡ octet c (p + 8) = omega (arith, e, octet-lt c bit (p + 8)) in
+    data-halves w ∙ rw (h, l) (data-octets c bit p)
 
 -- On a byte boundary the octet is the image's byte.
 pub aligned : (s : List ℕ) (k : ℕ) → getD s k 0 < 256 → getD s (k + 1) 0 < 256 → octet (cell s) (8 * k) ≡ getD s k 0
@@ -182,6 +190,23 @@ aligned s k ha hb =
     let e : 8 * k / 8 ≡ k = omega arith in
     let z : 8 * k % 8 ≡ 0 = omega arith in
     sym (joined s (8 * k) (rw e ha) (rw e hb)) ∙ rw (e, z) (omega arith)
+
+-- The window that begins k cells into the byte `at`, or with the next, is the octet there.
+pub window-octet : (s : List ℕ) → ((i : ℕ) → getD s i 0 < 256) → (at k : ℕ) → k ≤ 8
+    → (getD s at 0 * 256 + getD s (at + 1) 0) / 2 ^ (8 - k) % 256 ≡ octet (cell s) (8 * at + k)
+window-octet s small at k h = ⊎-elim (λ e. whole e) (λ l. part l) (eq-or-lt-of-le h)
+  where
+    whole : k ≡ 8 → (getD s at 0 * 256 + getD s (at + 1) 0) / 2 ^ (8 - k) % 256 ≡ octet (cell s) (8 * at + k)
+    whole e =
+        let p : 8 * at + 8 ≡ 8 * (at + 1) = omega arith in
+        rw (e, p, aligned s (at + 1) (small (at + 1)) (small (at + 1 + 1))) (omega (arith, small (at + 1)))
+
+    part : k < 8 → (getD s at 0 * 256 + getD s (at + 1) 0) / 2 ^ (8 - k) % 256 ≡ octet (cell s) (8 * at + k)
+    part l =
+        let i = 8 * at + k in
+        let p : i / 8 ≡ at = omega arith in
+        let m : i % 8 ≡ k = omega arith in
+        octet-read s i (getD s at 0) (getD s (at + 1) 0) _ (small at) (small (at + 1)) (rw p) (rw p) (rw m)
 
 -- What lies in the middle of a number: b behind a, and d behind them.
 middle : (a b d s : ℕ) → s < 8 → b < 256 → d < 2 ^ s → (a * 2 ^ (8 + s) + (b * 2 ^ s + d)) / 2 ^ s % 256 ≡ b

@@ -12,3 +12,7 @@ pub mod Stores
 pub mod Bytes
 -- two image bytes as a word
 pub mod Words
+-- doubtful clock cells, of a byte and of bytes one behind the other
+pub mod Clocks
+-- how the code counts the doubtful clock cells of two octets
+mod Halves

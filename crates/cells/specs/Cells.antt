@@ -1,9 +1,13 @@
--- The cells of an image, and what eight or sixteen of them hold. An image is bytes, eight cells each, most significant bit first; it
--- begins at the index hole and does not wrap round (01, "The image and the four layouts"). Past the image's end every cell is 0, so
--- that each definition has a value at every cell. From the octet on, all is said of a function c, whose value c i is cell i.
+-- The cells of an image, what eight or sixteen of them hold, and which clock cells are doubtful. An image is bytes, eight cells each, most
+-- significant bit first; it begins at the index hole and does not wrap round (01, "The image and the four layouts"). Past the image's end every
+-- cell is 0, so that each definition has a value at every cell. From the octet on, all is said of a function c, whose value c i is cell i.
 use Prim.Native.Nat.{ℕ, zero, suc, _+_, _-_, _*_, _/_, _%_, _^_, _<_}
+use mathlib.Core.Bool.{cond}
 use mathlib.Core.List.{List, [], _∷_}
+use lib.Dec.{eqb}
 use lib.ListN.{getD}
+use Rattle.cells.specs.declared.Mode.{Mode}
+use Rattle.cells.specs.declared.Mode.the-variants.{Fm, Mfm}
 
 -- A number that is a byte.
 abbrev pub Byte : ℕ → Type 0
@@ -36,3 +40,31 @@ dataByte c p =
 unfoldable pub dataBytes : (ℕ → ℕ) → ℕ → ℕ → List ℕ
 dataBytes c p zero = []
 dataBytes c p (suc k) = dataByte c p ∷ dataBytes c (p + 16) k
+
+-- The clock cell between the data bits a and d: in FM it is 1, in MFM it is 1 exactly if both are ZERO
+-- (01, "The image and the four layouts"; 004, 4.1.1 and 4.1.2).
+unfoldable pub clock : Mode → ℕ → ℕ → ℕ
+clock Fm a d = 1
+clock Mfm a d = 1 - (a + d)
+
+-- 1 where the clock cell x between the data bits a and d is doubtful, which is to say not the mode's, else 0 (02, Req 06).
+unfoldable pub doubt : Mode → (a x d : ℕ) → ℕ
+doubt mode a x d = cond (eqb x (clock mode a d)) 0 1
+
+module _ (mode : Mode) (c : ℕ → ℕ) where
+  -- How many of the eight clock cells of the sixteen from cell p on are doubtful, after the bit a (02, Req 06).
+  unfoldable pub byteClocks : (a p : ℕ) → ℕ
+  byteClocks a p =
+      doubt mode a (c p) (c (p + 1))
+      + doubt mode (c (p + 1)) (c (p + 2)) (c (p + 3))
+      + doubt mode (c (p + 3)) (c (p + 4)) (c (p + 5))
+      + doubt mode (c (p + 5)) (c (p + 6)) (c (p + 7))
+      + doubt mode (c (p + 7)) (c (p + 8)) (c (p + 9))
+      + doubt mode (c (p + 9)) (c (p + 10)) (c (p + 11))
+      + doubt mode (c (p + 11)) (c (p + 12)) (c (p + 13))
+      + doubt mode (c (p + 13)) (c (p + 14)) (c (p + 15))
+
+  -- The sum for the k bytes from cell p on, the first of them after the bit a: the last bit of each is the bit before the next (02, Req 06).
+  unfoldable pub bytesClocks : (a p k : ℕ) → ℕ
+  bytesClocks a p zero = 0
+  bytesClocks a p (suc k) = byteClocks a p + bytesClocks (c (p + 15)) (p + 16) k

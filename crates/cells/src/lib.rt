@@ -1,15 +1,31 @@
-// The cells of an image: eight to a byte, most significant first, and what eight and sixteen of them hold.
+// The cells of an image: eight to a byte, most significant first, what eight and sixteen of them hold, and which clock cells are doubtful.
 // Every function takes any place: past the image's end cells are 0.
 ghost use mathlib.Core.Path.{_≡_};
 ghost use Prim.Native.Nat.{_+_, _-_, _*_, _<_, _≤_, _/_, _%_, _^_};
 ghost use lib.ListN.{getD, length};
-ghost use Rattle.cells.specs.Cells.{cell, byteOf, dataByte, dataBytes};
-ghost use Rattle.cells.specs.Outcomes.{IsOctet, IsDataByte, AreDataBytes, AreZeros};
+ghost use Rattle.cells.specs.Cells.{cell, byteOf, octet};
+ghost use Rattle.cells.specs.Aids.{ruled, rightClocks};
+ghost use Rattle.cells.specs.Outcomes.{IsOctet, IsDataByte, IsReadByte, AreReadBytes, AreZeros};
+
+mod runs;
 
 // The two modes of recording (004, 4.1).
 pub enum Mode {
     Fm,
     Mfm,
+}
+
+// What reading one byte tells.
+pub struct ReadByte {
+    pub byte: u8,
+    // how many of its eight clock cells are doubtful: not those of the mode's rule
+    pub clocks: u32,
+}
+
+// What reading bytes into an area tells besides them.
+pub struct ReadBytes {
+    // how many of their clock cells are doubtful
+    pub clocks: u32,
 }
 
 // The image byte at an index, or 0 past the end.
@@ -54,7 +70,7 @@ fn wide_window(first: u8, second: u8, third: u8, fourth: u8, shift: usize) -> u1
 
 // The data cells of two octets, put together in bits 3 to 6 of each. Each step lays the cells over themselves, one and two places up, and
 // the mask keeps those that came together.
-fn nibbles(octets: u16) -> u16
+pub(crate) fn nibbles(octets: u16) -> u16
     ensures { λ r. ⌜ r ≡ byteOf 0 (octets / 16384 % 2) (octets / 4096 % 2) (octets / 1024 % 2) (octets / 256 % 2) 0 0 0 * 256
         + byteOf 0 (octets / 64 % 2) (octets / 16 % 2) (octets / 4 % 2) (octets % 2) 0 0 0 ⌝ }
 {
@@ -72,113 +88,104 @@ fn together(cells: u16) -> u8
     (both * 17 / 128 % 256) as u8
 }
 
-// The data byte of the sixteen cells that begin `shift` cells into the image byte `at`. One test tells that all bytes are there.
-fn byte_from(image: &[u8], at: usize, shift: usize) -> u8
+// The sixteen cells that begin `shift` cells into the image byte `at`. One test tells that all bytes are there.
+fn sixteen_from(image: &[u8], at: usize, shift: usize) -> u16
     requires { ⌜ (shift < 8) × (at + 3 < 2 ^ 64) ⌝ }
-    ensures { λ r. ⌜ r ≡ dataByte (cell (now (image .entry))) (8 * at + shift) ⌝ }
+    ensures { λ r. ⌜ r ≡ octet (cell (now (image .entry))) (8 * at + shift) * 256 + octet (cell (now (image .entry))) (8 * at + shift + 8) ⌝ }
 {
     if at + 3 < image.len() {
-        return together(wide_window(
+        return wide_window(
             image[at],
             image[at + 1],
             image[at + 2],
             image[at + 3],
             shift,
-        ));
+        );
     }
-    together(wide_window(
+    wide_window(
         byte_or_zero(image, at),
         byte_or_zero(image, at + 1),
         byte_or_zero(image, at + 2),
         0,
         shift,
-    ))
+    )
 }
 
 // The data byte of the sixteen cells from `place` on.
 pub fn data_byte(image: &[u8], place: usize) -> u8
     ensures { λ r. ⌜ IsDataByte (now (image .entry)) place r ⌝ }
 {
-    byte_from(image, place / 8, place % 8)
+    together(sixteen_from(image, place / 8, place % 8))
 }
 
-// Two image bytes as a word, the first in its lower half, as the processor takes them from memory. By itself, so that the back end makes one
-// load of the two before it sees that words overlap.
-fn word_at(image: &[u8], at: usize) -> u16
-    requires { ⌜ at + 1 < length (now image) ⌝ }
-    ensures { λ r. ⌜ r ≡ getD (now (image .entry)) at 0 + getD (now (image .entry)) (at + 1) 0 * 256 ⌝ }
+// The clock cells that go by the data bits beside them: in MFM all of sixteen, in FM none.
+fn ruled(mode: Mode) -> u16
+    ensures { λ r. ⌜ r ≡ ruled mode ⌝ }
 {
-    (image[at] as u16) + (image[at + 1] as u16) * 256
-}
-
-// The lowest `count` bits of both halves of a word.
-fn low_bits(count: usize) -> u16
-    requires { ⌜ count ≤ 8 ⌝ }
-    ensures { λ r. ⌜ r ≡ (2 ^ count - 1) * 256 + (2 ^ count - 1) ⌝ }
-{
-    ((1u16 << count) - 1) * 257
-}
-
-// The two octets that begin `shift` cells into the halves of a word: their upper cells come from it, and the lower ones from `next`, the word
-// one byte further on.
-fn word_window(word: u16, next: u16, shift: usize) -> u16
-    requires { ⌜ shift < 8 ⌝ }
-    ensures { λ r. ⌜ r ≡ (word % 256 * 256 + next % 256) / 2 ^ (8 - shift) % 256 + (word / 256 * 256 + next / 256) / 2 ^ (8 - shift) % 256 * 256 ⌝ }
-{
-    ((word & low_bits(8 - shift)) << shift) + ((next >> (8 - shift)) & low_bits(shift))
-}
-
-// The data cells of the two octets of a word, put together as a byte.
-fn word_data(word: u16) -> u8
-    ensures { λ r. ⌜ r ≡ byteOf (word / 64 % 2) (word / 16 % 2) (word / 4 % 2) (word % 2)
-        (word / 16384 % 2) (word / 4096 % 2) (word / 1024 % 2) (word / 256 % 2) ⌝ }
-{
-    let both = nibbles(word);
-    ((both * 2 + both / 2048) % 256) as u8
-}
-
-// Fills the area with the data bytes from `shift` cells into the image byte `at` on, where all their image bytes are there. No turn waits for
-// another and none branches, and all is done in sixteen bits: so the back end makes eight bytes at once.
-fn fill_by_words(image: &[u8], at: usize, shift: usize, bytes: &mut [u8])
-    requires { ⌜ (shift < 8) × (at + 2 * length (now bytes) < length (now image)) ⌝ }
-    ensures { λ _. ⌜ now (bytes .exit) ≡ dataBytes (cell (now (image .entry))) (8 * at + shift) (length (now (bytes .entry))) ⌝ }
-{
-    let mut i = 0;
-    while i < bytes.len() {
-        let from = at + 2 * i;
-        bytes[i] = word_data(word_window(word_at(image, from), word_at(image, from + 1), shift));
-        i += 1;
+    match mode {
+        Mode::Fm => 0,
+        Mode::Mfm => 0xAAAA,
     }
 }
 
-// The same whatever the image has. Past its end `from` stays: all that follows is 0.
-fn fill_by_bytes(image: &[u8], at: usize, shift: usize, bytes: &mut [u8])
+// Of two octets the clock cells that are right, each where it stands; what stands at the data cells is of no use. `earlier` are the octets from one cell
+// earlier on, so that the data bit before a clock cell stands where the cell does. In MFM a clock cell is right where it differs from "one of the two bits
+// beside it is ONE", in FM where it differs from 0.
+pub(crate) fn right_clocks(mode: Mode, earlier: u16, cells: u16) -> u16
+    ensures { λ r. ⌜ r ≡ rightClocks mode earlier cells ⌝ }
+{
+    cells ^ ((((cells & 0x5555) << 1) | earlier) & ruled(mode))
+}
+
+// A bit where it comes before the first of sixteen cells: 0 is ZERO, anything else ONE.
+fn bit_before(before: u8) -> u16
+    ensures { λ r. ⌜ (before ≡ 0 → r ≡ 0) × ((before ≡ 0 → ⊥) → r ≡ 32768) × (r ≤ 32768) ⌝ }
+{
+    if before == 0 {
+        return 0;
+    }
+    32768
+}
+
+// The byte of the sixteen cells that begin `shift` cells into the image byte `at`, and its doubtful clock cells after the bit `before`. Counted by the
+// operation that counts ones: so the function is short, and where its callers leave the count the back end leaves it out.
+pub(crate) fn byte_from(mode: Mode, before: u8, image: &[u8], at: usize, shift: usize) -> ReadByte
     requires { ⌜ (shift < 8) × (at + 3 < 2 ^ 64) ⌝ }
-    ensures { λ _. ⌜ now (bytes .exit) ≡ dataBytes (cell (now (image .entry))) (8 * at + shift) (length (now (bytes .entry))) ⌝ }
+    ensures { λ r. ⌜ IsReadByte mode before (now (image .entry)) (8 * at + shift) r ⌝ }
 {
-    let mut from = at;
-    let mut i = 0;
-    while i < bytes.len() {
-        bytes[i] = byte_from(image, from, shift);
-        if from < image.len() {
-            from += 2;
-        }
-        i += 1;
+    let cells = sixteen_from(image, at, shift);
+    let right = right_clocks(mode, bit_before(before) + cells / 2, cells);
+    ReadByte {
+        byte: together(cells),
+        clocks: 8 - u32::count_ones((right & 0xAAAA) as u32),
     }
 }
 
-// Fills the area with the data bytes from `place` on. One test tells that all their image bytes are there.
-pub fn data_bytes(image: &[u8], place: usize, bytes: &mut [u8])
-    ensures { λ _. ⌜ AreDataBytes (now (image .entry)) place (length (now (bytes .entry))) (now (bytes .exit)) ⌝ }
+// Reads the byte of the sixteen cells from `place` on, after the bit `before`: 0 is ZERO, anything else ONE.
+pub fn read_byte(mode: Mode, before: u8, image: &[u8], place: usize) -> ReadByte
+    ensures { λ r. ⌜ IsReadByte mode before (now (image .entry)) place r ⌝ }
 {
-    let at = place / 8;
+    byte_from(mode, before, image, place / 8, place % 8)
+}
+
+// Reads into the area the bytes from `place` on, the first of them after the bit `before`: 0 is ZERO, anything else ONE. One test tells that all their
+// image bytes are there and that the sum fits in sixteen bits, and one that the bit before is what stands before them, as it does behind a mark.
+pub fn read_bytes(mode: Mode, before: u8, image: &[u8], place: usize, bytes: &mut [u8]) -> ReadBytes
+    ensures { λ r. ⌜ AreReadBytes mode before (now (image .entry)) place (length (now (bytes .entry))) r (now (bytes .exit)) ⌝ }
+{
+    if place == 0 {
+        return runs::fill_by_bytes(mode, before, image, 0, 0, bytes);
+    }
+    let at = (place - 1) / 8;
+    let shift = (place - 1) % 8;
     if at < image.len() {
-        if bytes.len() <= (image.len() - at - 1) / 2 {
-            fill_by_words(image, at, place % 8, bytes);
-            return;
+        if (bytes.len() <= (image.len() - at - 1) / 2) & (bytes.len() < 8192) {
+            if runs::cell_at(image, at, shift) == before {
+                return runs::fill_by_mode(mode, image, at, shift, bytes);
+            }
         }
     }
-    fill_by_bytes(image, at, place % 8, bytes)
+    runs::fill_by_bytes(mode, before, image, place / 8, place % 8, bytes)
 }
 
 // Fills the area with zeros.

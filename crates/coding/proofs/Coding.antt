@@ -1,12 +1,13 @@
--- What is coded is read back, proved once over the mode: a clock cell is 0 or 1 in both, and nothing more is asked of it.
-use mathlib.Core.Path.{_≡_, sym, _∙_}
+-- What is coded is read back, proved once over the mode: a clock cell is 0 or 1 in both, and nothing more is asked of it. And it has no doubtful clock cell.
+use mathlib.Core.Path.{_≡_, sym, ap, ap₂, _∙_}
 use Prim.Native.Nat.{ℕ, _+_, _*_, _/_, _%_, _<_}
 use native.Mathlib.Omega.{arith}
 use lib.Dec.{lit<}
-use Rattle.cells.proofs.Digits.{bit-lt, byte-lt, bits}
+use Rattle.cells.proofs.Clocks.{fourClocks, two-fours, octet-digits, doubt-none}
+use Rattle.cells.proofs.Digits.{bit-lt, byte-lt, bits, digits}
 use Rattle.cells.proofs.Joined.{nibbleOf, data-octets, nibble-digits}
-use Rattle.cells.specs.Cells.{byteOf, octet, dataByte}
-use Rattle.coding.specs.Coding.{clock, four, high, low}
+use Rattle.cells.specs.Cells.{byteOf, octet, dataByte, clock, byteClocks}
+use Rattle.coding.specs.Coding.{four, high, low}
 use Rattle.cells.specs.declared.Mode.{Mode}
 use Rattle.cells.specs.declared.Mode.the-variants.{Fm, Mfm}
 
@@ -53,6 +54,36 @@ nibbles mode a x h =
 pub read-back : (c : ℕ → ℕ) → ((i : ℕ) → c i < 2) → (mode : Mode) (a x p : ℕ) → x < 256
     → octet c p ≡ high mode a x → octet c (p + 8) ≡ low mode x → dataByte c p ≡ x
 read-back c bit mode a x p h e1 e2 = sym (data-octets c bit p) ∙ rw (e1, e2) (nibbles mode a x h)
+
+-- ---- no clock cell is doubtful
+
+module _ (c : ℕ → ℕ) (bit : (i : ℕ) → c i < 2) (mode : Mode) where
+  -- Where four data bits are coded after the bit a stand these bits, each behind the mode's clock cell.
+  four-clocks : (a d e f g p : ℕ) → d < 2 → e < 2 → f < 2 → g < 2 → octet c p ≡ four mode a d e f g → (fourClocks mode c a p ≡ 0) × (c (p + 7) ≡ g)
+  unfolding four
+  four-clocks a d e f g p hd he hf hg same =
+      let coded = digits (clock mode a d) d (clock mode d e) e (clock mode e f) f (clock mode f g) g
+      (clock-lt mode a d) hd (clock-lt mode d e) he (clock-lt mode e f) hf (clock-lt mode f g) hg in
+      let stands = rw same at (octet-digits mode c bit p) in
+      let c0 = sym (stands .at7) ∙ coded .at7 in
+      let c1 = sym (stands .at6) ∙ coded .at6 in
+      let c2 = sym (stands .at5) ∙ coded .at5 in
+      let c3 = sym (stands .at4) ∙ coded .at4 in
+      let c4 = sym (stands .at3) ∙ coded .at3 in
+      let c5 = sym (stands .at2) ∙ coded .at2 in
+      let c6 = sym (stands .at1) ∙ coded .at1 in
+      let c7 = sym (stands .at0) ∙ coded .at0 in
+      (rw (c0, c1, c2, c3, c4, c5, c6, c7, doubt-none mode a d, doubt-none mode d e, doubt-none mode e f, doubt-none mode f g), c7)
+
+  -- What is coded after a bit and read after it has no doubtful clock cell.
+  pub coded-clocks : (a x p : ℕ) → octet c p ≡ high mode a x → octet c (p + 8) ≡ low mode x → byteClocks mode c a p ≡ 0
+  unfolding high low
+  coded-clocks a x p e1 e2 =
+      let upper = four-clocks a (x / 128 % 2) (x / 64 % 2) (x / 32 % 2) (x / 16 % 2) p
+      (bit-lt (x / 128)) (bit-lt (x / 64)) (bit-lt (x / 32)) (bit-lt (x / 16)) e1 in
+      let lower = four-clocks (x / 16 % 2) (x / 8 % 2) (x / 4 % 2) (x / 2 % 2) (x % 2) (p + 8)
+      (bit-lt (x / 8)) (bit-lt (x / 4)) (bit-lt (x / 2)) (bit-lt x) e2 in
+      sym (two-fours mode c a p) ∙ ap₂ _+_ (upper .0) (ap (λ (b : ℕ). fourClocks mode c b (p + 8)) (upper .1) ∙ lower .0)
 
 -- ---- after a ONE
 

@@ -1,16 +1,9 @@
 -- How a data byte is coded as sixteen cells: clock cell, data cell, eight times, B8 first. A clock cell stands between two data bits,
 -- so the coding of a byte takes the bit before it; the bit before the track's first is taken as ZERO.
-use Prim.Native.Nat.{ℕ, _+_, _-_, _/_, _%_}
-use Rattle.cells.specs.Cells.{byteOf}
+use Prim.Native.Nat.{ℕ, _/_, _%_}
+use Rattle.cells.specs.Cells.{byteOf, clock}
 use Rattle.cells.specs.declared.Mode.{Mode}
-use Rattle.cells.specs.declared.Mode.the-variants.{Fm, Mfm}
 use Rattle.coding.specs.declared.Pair.{Pair}
-
--- The clock cell between the data bits a and d: in FM it is 1, in MFM it is 1 exactly if both are ZERO
--- (01, "The image and the four layouts"; 004, 4.1.1 and 4.1.2).
-unfoldable pub clock : Mode → ℕ → ℕ → ℕ
-clock Fm a d = 1
-clock Mfm a d = 1 - (a + d)
 
 -- Four data bits after the bit a, as an image byte: clock cell, data cell, four times.
 unfoldable pub four : Mode → ℕ → ℕ → ℕ → ℕ → ℕ → ℕ

@@ -36,6 +36,7 @@ pub(crate) fn record_at(records: Records, sector: u32) -> Record
     Record {
         answer,
         place: records.places[at],
+        clocks: records.clocks[at],
     }
 }
 

@@ -41,7 +41,7 @@ use Rattle.station.specs.Picks.{pickNumber, handedOn, partOf}
 use Rattle.station.specs.Records.{recordWidth, recordNumbers, sectorNumbers, recordList, numberedAt}
 use Rattle.verdicts.specs.Tests.{Verdict, passed, refused, refusal, by}
 use Rattle.verdicts.proofs.Tests.{clash, exactly, by-passed, by-map}
-use Rattle.promises.specs.Doors.{Listed, DoorsRefuse, answerIn, placeIn, RefusedReadGivesZeros, RefusedSectorsGiveZeros, RefusedPickGivesZeros, HandsOn, PickHandsOn, GivesBackAsWritten}
+use Rattle.promises.specs.Doors.{Listed, DoorsRefuse, answerIn, placeIn, clocksIn, RefusedReadGivesZeros, RefusedSectorsGiveZeros, RefusedPickGivesZeros, HandsOn, PickHandsOn, GivesBackAsWritten}
 use Rattle.promises.specs.Rewriting.{number}
 use Rattle.promises.proofs.Demands.{by-tests, taken, choice-unrefused, refused-sectors-leave-zeros}
 use Rattle.promises.proofs.formatting.Calls.{format-then-read}
@@ -144,7 +144,7 @@ number-in k h count records s i low inside few e =
     ∙ ap (λ (xs : List ℕ). getD xs k 0) (listed-at count records s low (omega arith))
     ∙ rw (le-leb s count inside)
 
--- The first is its answer's, the second its place.
+-- The first is its answer's, the second its place, the third the sum of its doubtful clock cells.
 answer-in : (count : ℕ) (records : Records) (s : ℕ) → 1 ≤ s → s ≤ count → count ≤ mostSectors
     → answerIn (recordList count records) s ≡ answerNumber (recordAt records s .answer)
 answer-in count records s low inside few = number-in 0 (omega arith) count records s _ low inside few (omega arith)
@@ -152,6 +152,10 @@ answer-in count records s low inside few = number-in 0 (omega arith) count recor
 pub place-in : (count : ℕ) (records : Records) (s : ℕ) → 1 ≤ s → s ≤ count → count ≤ mostSectors
     → placeIn (recordList count records) s ≡ recordAt records s .place
 place-in count records s low inside few = number-in 1 (omega arith) count records s _ low inside few refl
+
+clocks-in : (count : ℕ) (records : Records) (s : ℕ) → 1 ≤ s → s ≤ count → count ≤ mostSectors
+    → clocksIn (recordList count records) s ≡ recordAt records s .clocks
+clocks-in count records s low inside few = number-in 2 (omega arith) count records s _ low inside few refl
 
 -- A read that gives 0 hands back what its track holds.
 pub accepted-read : (layout cylinder side : ℕ) (image : List ℕ) (given : ℕ) (area records counts : List ℕ)
@@ -216,6 +220,11 @@ gives-back-as-written layout cylinder side contents marks before image number ar
           ap (λ (xs : List ℕ). placeIn xs s) (read .recorded)
           ∙ place-in (hands .sectors) (hands .records) s (h .0) inside (rw (back .counted) (few .1))
           ∙ back .places s h;
+      clocks = λ s h.
+          let inside : s ≤ hands .sectors = rw (back .counted) (h .1) in
+          ap (λ (xs : List ℕ). clocksIn xs s) (read .recorded)
+          ∙ clocks-in (hands .sectors) (hands .records) s (h .0) inside (rw (back .counted) (few .1))
+          ∙ back .clocks s h;
       slots = back .slots;
       counted = read .counted ∙ ap₂ (λ (a b : ℕ). a ∷ b ∷ []) (back .bad) (back .foreign);
     }

@@ -2,7 +2,8 @@
 use mathlib.Core.List.{List, [], _∷_}
 use mathlib.Core.Path.{_≡_, refl}
 use Prim.Native.Nat.{ℕ}
-use Rattle.coding.specs.Coding.{clock, four, high, low}
+use Rattle.cells.specs.Cells.{clock}
+use Rattle.coding.specs.Coding.{four, high, low}
 use Rattle.edc.specs.Register.{edcOf, bytesEntered, byteEntered, bitEntered}
 use Rattle.format.specs.Order.{track, sectors, sector, block, run, bytes, checked, image}
 use Rattle.layouts.specs.Layouts.{fields, sectorFields}

@@ -12,6 +12,8 @@ pub mod rewriting
 pub mod Doors
 -- demand 3 at the doors
 pub mod Calling
+-- what holds of every record
+pub mod Records
 -- where on the track
 pub mod Places
 -- the file of a read cartridge
@@ -20,7 +22,10 @@ pub mod filing
 pub mod Letters
 -- flux timings
 pub mod timing
+-- doubtful clocks
+pub mod Clocks
 -- the facts
 pub mod Facts
 -- each contract allows one outcome
 pub mod Unique
+pub mod UniqueDoors

@@ -1,22 +1,19 @@
 -- Where on the track: the mark that stands at each sector's place, and that a rewrite finds it there.
-use mathlib.Core.Path.{_≡_, refl, sym, ap, subst, _∙_}
-use mathlib.Core.Bool.{Bool, true, false, cond}
+use mathlib.Core.Path.{_≡_, refl, ap, subst, _∙_}
+use mathlib.Core.Bool.{Bool, true, false}
 use mathlib.Core.List.{List, [], _∷_}
 use mathlib.Core.Logic.{inl, inr}
 use Prim.Native.Nat.{ℕ, _*_, _<_, _≤_}
 use native.Mathlib.Omega.{arith}
-use lib.Dec.{leb}
 use lib.ListN.{length}
-use Rattle.answers.specs.Answers.{noPlace, recordAt}
+use Rattle.answers.specs.Answers.{noPlace}
 use Rattle.answers.specs.declared.Answer.{Answer}
 use Rattle.answers.specs.declared.Answer.the-variants as answers
 use Rattle.answers.specs.declared.Fault.the-variants.{NoIdentifier, Doubled, NoBlock, PastEnd}
 use Rattle.answers.specs.declared.Record.{Record}
-use Rattle.calls.specs.declared.Checked.the-variants.{Refused}
 use Rattle.calls.specs.declared.Refusal.{Refusal}
 use Rattle.calls.proofs.Refusals.{sector-known}
 use Rattle.cells.specs.Cells.{cell}
-use Rattle.format.specs.Order.{Numbered}
 use Rattle.layouts.specs.Layouts.{layoutOf, mostSectors}
 use Rattle.layouts.specs.Refusals.{readingTests}
 use Rattle.layouts.specs.Tracks.{trackOf}
@@ -27,16 +24,12 @@ use Rattle.marks.specs.Marks.{markByte, stands}
 use Rattle.marks.specs.declared.Mark.{Mark}
 use Rattle.marks.specs.declared.Mark.the-variants.{Data, Control, Open}
 use Rattle.marks.proofs.Spelling.{stands-room, string-two}
-use Rattle.read.specs.Records.{Sector, refused as refusing, blockAfter, blockAnswer, identifierRecord, recordFor, sectorOf}
-use Rattle.read.specs.Outcomes.{reading, readAnswer}
-use Rattle.read.specs.declared.Reading.{Reading}
+use Rattle.read.specs.Records.{Sector, blockAfter, blockAnswer, blockClocks, identifierRecord, recordFor}
+use Rattle.read.specs.Outcomes.{readAnswer}
 use Rattle.answers.specs.Letters.{answerAfter}
 use Rattle.answers.proofs.Letters.{defective-control, forbidden-control, answer-cases}
 use Rattle.read.proofs.Passing.{modest}
 use Rattle.read.proofs.Recording.{block-cases}
-use Rattle.station.specs.Outcomes.{GivesRead}
-use Rattle.station.specs.Records.{numberedAt}
-use Rattle.station.proofs.Passes.{read-back}
 use Rattle.verdicts.specs.Tests.{Verdict, passed, refused, refusal, by}
 use Rattle.verdicts.proofs.Tests.{clash, passed-both, first-passed}
 use Rattle.walk.specs.Events.{blocks}
@@ -44,15 +37,14 @@ use Rattle.walk.specs.Outcomes.{met}
 use Rattle.walk.specs.Turns.{BlockStands}
 use Rattle.walk.specs.declared.Block.{Block}
 use Rattle.walk.specs.declared.Block.the-variants.{Missing, Beyond, Within}
-use Rattle.walk.proofs.Walking.{AllWhole, blocks-whole}
+use Rattle.walk.proofs.Walking.{AllWhole}
 use Rattle.promises.specs.Doors.{placeIn}
 use Rattle.promises.specs.Places.{said, OneStands, Marked, PlaceOfMark}
 use Rattle.promises.specs.Sectors.{sectorIn}
 use Rattle.promises.proofs.Blocks.{alone-so}
-use Rattle.promises.proofs.Demands.{passed-reading}
+use Rattle.promises.proofs.Records.{by-blocks, handed-back, of-every-record}
 use Rattle.promises.proofs.Calling.{asked}
 use Rattle.promises.proofs.Doors.{accepted-read, place-in}
-use Rattle.promises.proofs.formatting.Calls.{record-read}
 use Rattle.promises.proofs.rewriting.Granted.{granted}
 
 -- ---- what an answer says of its mark
@@ -105,46 +97,23 @@ module _ (t : Track) (image : List ℕ) where
           (λ f. let k = forbidden-control (t .cylinder) (markByte Data) first f in absurd (clash cc)) (λ d f k. absurd (clash cc)) (λ k. inl h)
 
   -- A record without a place, and one with.
-  unmarked : (a : Answer) → said a ≡ [] → Marked t image (record { answer = a; place = noPlace })
-  unmarked a e = record { none = λ h. refl; some = λ u. absurd (u e); marked = λ u. absurd (u refl) }
+  unmarked : (a : Answer) (clocks : ℕ) → said a ≡ [] → Marked t image (record { answer = a; place = noPlace; clocks = clocks })
+  unmarked a clocks e = record { none = λ h. refl; some = λ u. absurd (u e); marked = λ u. absurd (u refl) }
 
-  marked-so : (a : Answer) (m : ℕ) → BlockStands (t .layout .mode) c n m → OneStands t image m (said a)
-      → Marked t image (record { answer = a; place = m })
-  marked-so a m s h = record { none = λ e. absurd (subst (OneStands t image m) e h); some = λ u. inside m s; marked = λ u. h }
+  marked-so : (a : Answer) (m clocks : ℕ) → BlockStands (t .layout .mode) c n m → OneStands t image m (said a)
+      → Marked t image (record { answer = a; place = m; clocks = clocks })
+  marked-so a m clocks s h = record { none = λ e. absurd (subst (OneStands t image m) e h); some = λ u. inside m s; marked = λ u. h }
 
   record-marked : (bs : List Block) → AllWhole t c n bs → Marked t image (recordFor t c n bs .known)
   unfolding recordFor identifierRecord
-  record-marked [] h = unmarked (answers.Refused NoIdentifier) refl
-  record-marked (Missing ∷ []) h = unmarked (answers.Refused NoBlock) refl
-  record-marked (Beyond m ∷ []) h = marked-so (answers.Refused PastEnd) m (h .0 .1) (one-of-three m (h .0 .1))
-  record-marked (Within m ∷ []) h = marked-so (blockAnswer t c n m) m (h .0 .1) (block-said m (h .0 .1))
-  record-marked (b ∷ x ∷ bs) h = unmarked (answers.Refused Doubled) refl
+  record-marked [] h = unmarked (answers.Refused NoIdentifier) 0 refl
+  record-marked (Missing ∷ []) h = unmarked (answers.Refused NoBlock) 0 refl
+  record-marked (Beyond m ∷ []) h = marked-so (answers.Refused PastEnd) m 0 (h .0 .1) (one-of-three m (h .0 .1))
+  record-marked (Within m ∷ []) h = marked-so (blockAnswer t c n m) m (blockClocks t c n m) (h .0 .1) (block-said m (h .0 .1))
+  record-marked (b ∷ x ∷ bs) h = unmarked (answers.Refused Doubled) 0 refl
 
   sector-marked : (s : ℕ) → Marked t image (sectorIn t image s .known)
-  unfolding sectorOf
-  sector-marked s = go (leb s (t .layout .sectors))
-    where
-      go : (b : Bool) → Marked t image (cond b (recordFor t c n (blocks s (met t image))) (refusing (t .layout .size) NoIdentifier noPlace) .known)
-      go true = record-marked (blocks s (met t image)) (blocks-whole t c n s)
-      go false = unmarked (answers.Refused NoIdentifier) refl
-
--- ---- in the words of the calls
-
-module _ (layout cylinder side : ℕ) (image : List ℕ) (given s : ℕ) (named : Numbered (layoutOf layout) s) where
-  -- The record that a read hands back which is not refused.
-  handed-back : (answer : Reading) → answer ≡ reading (trackOf layout cylinder side) image
-      → recordAt (answer .records) s ≡ sectorIn (trackOf layout cylinder side) image s .known
-  handed-back answer told =
-      ap (λ (r : Reading). recordAt (r .records) s) told ∙ record-read (trackOf layout cylinder side) image s (named .0) (named .1) (modest layout .1)
-
-  -- The record that the numbers say.
-  numbered-back : (area records counts : List ℕ) → GivesRead layout cylinder side image given 0 area records counts
-      → numberedAt records s ≡ sectorIn (trackOf layout cylinder side) image s .known
-  numbered-back area records counts p =
-      let told = accepted-read layout cylinder side image given area records counts p in
-      let few = modest layout .1 in
-      read-back layout cylinder side image given 0 area records counts p s (named .0) (omega (arith, few, named .1)) (rw told (named .1))
-      ∙ handed-back (readAnswer layout cylinder side image given) told
+  sector-marked = by-blocks t image (λ (x : Sector). Marked t image (x .known)) (unmarked (answers.Refused NoIdentifier) 0 refl) record-marked
 
 -- ---- where the block is located
 
@@ -183,14 +152,7 @@ pub place-of-mark : PlaceOfMark
 unfolding readAnswer identifierRecord
 place-of-mark =
     record {
-      sectors = sector-marked;
-      read = λ layout cylinder side image given answer after s p passes named.
-          let t = trackOf layout cylinder side in
-          let told = passed-reading layout cylinder side image given answer after p passes in
-          subst (Marked t image) (sym (handed-back layout cylinder side image given s named answer told)) (sector-marked t image s);
-      door = λ layout cylinder side image given area records counts s p named.
-          let t = trackOf layout cylinder side in
-          subst (Marked t image) (sym (numbered-back layout cylinder side image given s named area records counts p)) (sector-marked t image s);
+      records = of-every-record Marked sector-marked;
       within = λ layout cylinder side sector m image at. located-place layout cylinder side sector image (Within m) at m refl;
       beyond = λ layout cylinder side sector m image at. located-place layout cylinder side sector image (Beyond m) at m refl;
       planned = λ layout cylinder side sector mark contents image plan ask.

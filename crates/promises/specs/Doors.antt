@@ -61,12 +61,15 @@ RefusedReadGivesZeros =
     → (number ≡ 0 → ⊥)
     → (area ≡ replicate given 0) × (records ≡ replicate (mostSectors * recordWidth) 0) × (counts ≡ 0 ∷ 0 ∷ [])
 
--- The two numbers of a sector's record in the list: its answer's, and its place.
+-- The three numbers of a sector's record in the list: its answer's, its place, and how many of its clock cells are doubtful.
 abbrev pub answerIn : List ℕ → (s : ℕ) → ℕ
 answerIn records s = getD records ((s - 1) * recordWidth) 0
 
 abbrev pub placeIn : List ℕ → (s : ℕ) → ℕ
 placeIn records s = getD records ((s - 1) * recordWidth + 1) 0
+
+abbrev pub clocksIn : List ℕ → (s : ℕ) → ℕ
+clocksIn records s = getD records ((s - 1) * recordWidth + 2) 0
 
 -- A refused sector's slot is all zero: where the number of its answer is 21 or above.
 abbrev pub RefusedSectorsGiveZeros : Type 0
@@ -109,6 +112,7 @@ pub record GivesBack (t : Track) (contents marks : List ℕ) (number : ℕ) (are
   pub accepted : number ≡ 0
   pub answered : (s : ℕ) → Numbered (t .layout) s → answerIn records s ≡ wentIn t contents marks s .number
   pub places : (s : ℕ) → Numbered (t .layout) s → placeIn records s ≡ 8 * blockPlace (t .layout) (s - 1)
+  pub clocks : (s : ℕ) → Numbered (t .layout) s → clocksIn records s ≡ 0
   pub slots : (s : ℕ) → Numbered (t .layout) s → slotIn (t .layout .size) s area ≡ wentIn t contents marks s .bytes
   pub counted : counts ≡ 0 ∷ 0 ∷ []
 

@@ -10,6 +10,8 @@ pub mod Cuts
 pub mod Rewriting
 -- All three, of the exported functions.
 pub mod Doors
+-- What a field of a record holds, wherever a read hands the record out.
+pub mod Records
 -- Where on the track (02, Req 01).
 pub mod Places
 -- The file of a read cartridge (02, Req 03).
@@ -18,6 +20,8 @@ pub mod Files
 pub mod Letters
 -- Flux timings (02, Req 05).
 pub mod Timings
+-- Doubtful clocks (02, Req 06).
+pub mod Clocks
 -- The facts that 01 marks P, and what a contract settles.
 pub mod Facts
 pub mod Unique

@@ -5,15 +5,12 @@ use mathlib.Core.Logic.{_⊎_}
 use mathlib.Core.Path.{_≡_}
 use Prim.Native.Nat.{ℕ, _*_, _<_}
 use lib.ListN.{length, getD}
-use Rattle.answers.specs.Answers.{noPlace, recordAt}
+use Rattle.answers.specs.Answers.{noPlace}
 use Rattle.answers.specs.declared.Answer.{Answer}
 use Rattle.answers.specs.declared.Answer.the-variants as answers
 use Rattle.answers.specs.declared.Fault.the-variants.{NoIdentifier, Doubled, NoBlock, PastEnd, OpenMark, WrongEdc, ForbiddenLetter}
 use Rattle.answers.specs.declared.Record.{Record}
-use Rattle.calls.specs.declared.Checked.the-variants.{Passed}
 use Rattle.cells.specs.Cells.{cell}
-use Rattle.format.specs.Order.{Numbered}
-use Rattle.layouts.specs.Layouts.{layoutOf}
 use Rattle.layouts.specs.Tracks.{trackOf}
 use Rattle.layouts.specs.declared.Track.{Track}
 use Rattle.locate.specs.Outcomes.{Locates}
@@ -21,15 +18,13 @@ use Rattle.locate.specs.declared.Located.the-variants.{Single}
 use Rattle.marks.specs.Marks.{stands}
 use Rattle.marks.specs.declared.Mark.{Mark}
 use Rattle.marks.specs.declared.Mark.the-variants.{Data, Control, Open}
-use Rattle.read.specs.Outcomes.{Reads}
-use Rattle.read.specs.declared.Reading.{Reading}
 use Rattle.request.specs.Outcomes.{Requests}
 use Rattle.request.specs.declared.Requested.the-variants as request
 use Rattle.rewrite.specs.declared.Plan.{Plan}
 use Rattle.station.specs.Outcomes.{GivesRead, GivesRequest}
-use Rattle.station.specs.Records.{numberedAt}
 use Rattle.walk.specs.declared.Block.the-variants.{Beyond, Within}
 use Rattle.promises.specs.Doors.{placeIn}
+use Rattle.promises.specs.Records.{OfEveryRecord}
 use Rattle.promises.specs.Sectors.{sectorIn}
 
 -- The marks that an answer says (01, "How a track is read"; 02, Req 04): 1 a data mark, 2, 3 and 27 a control mark, 25 an open one; 26 one of the first
@@ -61,19 +56,8 @@ pub record Marked (t : Track) (image : List ℕ) (known : Record) : Type 0 where
   pub marked : (known .place ≡ noPlace → ⊥) → OneStands t image (known .place) (said (known .answer))
 
 pub record PlaceOfMark : Type 0 where
-  -- Of every sector of every image,
-  pub sectors : (t : Track) (image : List ℕ) (s : ℕ) → Marked t image (sectorIn t image s .known)
-  -- in the words of `read`,
-  pub read : (layout cylinder side : ℕ) (image : List ℕ) (given : ℕ) (answer : Reading) (after : List ℕ) (s : ℕ)
-      → Reads layout cylinder side image given answer after
-      → answer .verdict ≡ Passed
-      → Numbered (layoutOf layout) s
-      → Marked (trackOf layout cylinder side) image (recordAt (answer .records) s)
-  -- and at the door.
-  pub door : (layout cylinder side : ℕ) (image : List ℕ) (given : ℕ) (area records counts : List ℕ) (s : ℕ)
-      → GivesRead layout cylinder side image given 0 area records counts
-      → Numbered (layoutOf layout) s
-      → Marked (trackOf layout cylinder side) image (numberedAt records s)
+  -- Of every sector of every image.
+  pub records : OfEveryRecord Marked
   -- Where `locate` finds the sector's block the place is the one that it gives, and so it is that of a plan: in the image, and at the door.
   pub within : (layout cylinder side sector m : ℕ) (image : List ℕ)
       → Locates layout cylinder side sector image (Single (Within m))

@@ -99,6 +99,7 @@ withRecord reading sector x =
           record {
             answers = set (reading .records .answers) (sector - 1) (record { answer = x .answer });
             places = set (reading .records .places) (sector - 1) (x .place);
+            clocks = set (reading .records .clocks) (sector - 1) (x .clocks);
           };
       bad = reading .bad;
       foreign = reading .foreign;
@@ -106,7 +107,7 @@ withRecord reading sector x =
 
 -- A rewrite was cut after j stores, and left the image `now`.
 pub record Survives (layout cylinder side sector mark : ℕ) (contents image : List ℕ) (plan : Plan) (j : ℕ) (now : List ℕ) : Type 0 where
-  -- Every other sector reads as before, its place included, and both counts are as before.
+  -- Every other sector reads as before, its place and the sum of its doubtful clock cells included (02, Req 01 and 06), and both counts are as before.
   pub others : (x : ℕ) → (x ≡ sector → ⊥) → sectorIn (trackOf layout cylinder side) now x ≡ sectorIn (trackOf layout cylinder side) image x
   pub bad : bads (met (trackOf layout cylinder side) now) ≡ bads (met (trackOf layout cylinder side) image)
   pub foreign : foreigns (met (trackOf layout cylinder side) now) ≡ foreigns (met (trackOf layout cylinder side) image)
@@ -116,6 +117,9 @@ pub record Survives (layout cylinder side sector mark : ℕ) (contents image : L
   pub opened : 0 < j → j < number layout image plan → ReadsSo (sectorIn (trackOf layout cylinder side) now sector) (underWay (layoutOf layout .size))
   pub written : j ≡ number layout image plan
       → ReadsSo (sectorIn (trackOf layout cylinder side) now sector) (readsBack cylinder mark contents)
+  -- Then none of its clock cells is doubtful (02, Req 06). Before, while the open mark stands, some can be: those of old cells, the one where new cells meet
+  -- old ones, and, though all bytes are new, the first, which is coded as if the new mark stood there.
+  pub faultless : j ≡ number layout image plan → sectorIn (trackOf layout cylinder side) now sector .known .clocks ≡ 0
   -- Its mark is where it was, before, during and after (02, Req 01).
   pub placed : sectorIn (trackOf layout cylinder side) now sector .known .place ≡ sectorIn (trackOf layout cylinder side) image sector .known .place
   -- In the words of `read`: it answers what it answers of the first image, but for this one record, and leaves the same, but for this one slot.
@@ -139,7 +143,7 @@ pub record StartsAgain (layout cylinder side sector : ℕ) (plan : Plan) (image 
 -- ---- demand 3
 
 -- A rewrite that may be cut: of every accepted request, on every image, and of every number j of steps up to all. (That the contents are bytes
--- is their type in the code; only the sector's new slot asks for it.)
+-- is their type in the code; only the sector's new slot and its sum ask for it.)
 pub record Demand3 : Type 0 where
   pub steps : (layout cylinder side sector mark : ℕ) (contents image : List ℕ) (plan : Plan)
       → Requests layout cylinder side sector mark contents image (request.Planned plan) → Stepwise layout mark contents image plan

@@ -64,18 +64,21 @@ abbrev pub wentIn : Track → (contents marks : List ℕ) → ℕ → Back
 wentIn t contents marks s = readsBack (t .cylinder) (getD marks (s - 1) 0) (slotIn (t .layout .size) s contents)
 
 -- Reading the image gives back the data and the marks: the sectors are met in their order and nothing else is, no identifier is bad or
--- foreign, each sector reads as what went in (01, "How a track is read"), and its place is that of its block on the track (02, Req 01).
+-- foreign, each sector reads as what went in (01, "How a track is read"), its place is that of its block on the track (02, Req 01), and none of its clock
+-- cells is doubtful (02, Req 06).
 pub record ReadsBack (t : Track) (contents marks order image : List ℕ) : Type 0 where
   pub meets : met t image ≡ acceptedFrom (t .layout) 0 order
   pub bad : bads (met t image) ≡ 0
   pub foreign : foreigns (met t image) ≡ 0
   pub sectors : (s : ℕ) → Numbered (t .layout) s → ReadsSo (sectorIn t image s) (wentIn t contents marks s)
   pub places : (s : ℕ) → Numbered (t .layout) s → sectorIn t image s .known .place ≡ 8 * blockPlace (t .layout) (position s order)
+  pub clocks : (s : ℕ) → Numbered (t .layout) s → sectorIn t image s .known .clocks ≡ 0
 
 -- ---- demand 2
 
 -- What `read` hands back of a formatted track: it is not refused, no identifier is bad or foreign, and of each sector the answer's number and
--- the slot in the area are those of what went in. The order is the natural one: sector s stands at position s - 1, and there its place is.
+-- the slot in the area are those of what went in. The order is the natural one: sector s stands at position s - 1, and there its place is. No clock cell
+-- of its block is doubtful.
 pub record HandsBack (t : Track) (contents marks : List ℕ) (answer : Reading) (area : List ℕ) : Type 0 where
   pub accepted : answer .verdict ≡ Passed
   pub counted : answer .sectors ≡ t .layout .sectors
@@ -83,6 +86,7 @@ pub record HandsBack (t : Track) (contents marks : List ℕ) (answer : Reading) 
   pub foreign : answer .foreign ≡ 0
   pub answers : (s : ℕ) → Numbered (t .layout) s → answerNumber (recordAt (answer .records) s .answer) ≡ wentIn t contents marks s .number
   pub places : (s : ℕ) → Numbered (t .layout) s → recordAt (answer .records) s .place ≡ 8 * blockPlace (t .layout) (s - 1)
+  pub clocks : (s : ℕ) → Numbered (t .layout) s → recordAt (answer .records) s .clocks ≡ 0
   pub slots : (s : ℕ) → Numbered (t .layout) s → slotIn (t .layout .size) s area ≡ wentIn t contents marks s .bytes
   pub whole : length area ≡ t .layout .sectors * t .layout .size
 

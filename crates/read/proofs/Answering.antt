@@ -1,5 +1,5 @@
 -- What a block answers, by its mark, and what it leaves in the slot; what an identifier makes of its sector, and one more of them.
-use mathlib.Core.Path.{_≡_, refl, sym, ap, ap₂, _∙_}
+use mathlib.Core.Path.{_≡_, refl, sym, ap, _∙_}
 use mathlib.Core.Bool.{Bool, true, false}
 use mathlib.Core.List.{List}
 use mathlib.Core.Logic.{inl, inr}
@@ -16,23 +16,25 @@ use Rattle.verdicts.proofs.Tests.{clash}
 use Rattle.walk.specs.Turns.{BlockStands, Placed}
 use Rattle.walk.specs.declared.Block.{Block}
 use Rattle.walk.specs.declared.Block.the-variants.{Missing, Beyond, Within}
-use Rattle.read.specs.Records.{Sector, slotOf, refused, blockAfter, blockAnswer, blockBytes, identifierRecord}
-use Rattle.read.specs.Turns.{Leaves, Gives, Checks, placeOf, unmet, next}
+use Rattle.read.specs.Records.{Sector, slotOf, refused, blockAfter, blockAnswer, blockBytes, markAt, blockClocks, identifierRecord}
+use Rattle.read.specs.Turns.{Leaves, Gives, Checks, Opens, placeOf, unmet, next}
 use Rattle.answers.specs.Answers.{noPlace}
+use Rattle.answers.proofs.Fields.{same-record}
 use Rattle.answers.specs.declared.Fault.{Fault}
 use Rattle.answers.specs.declared.Fault.the-variants.{Doubled, NoBlock, PastEnd, OpenMark}
 use Rattle.answers.specs.declared.Answer.{Answer}
 use Rattle.answers.specs.declared.Answer.the-variants.{Refused}
 
--- A refused answer with a slot of zeros is the refused sector's; k is the length of the slot that was lent.
-pub leaves-refused : {size place : ℕ} {sector : Sector} {r : Answer} {slot : List ℕ} (fault : Fault) (k : ℕ) → sector ≡ refused size fault place
-    → (r ≡ Refused fault) × (slot ≡ replicate k 0) → k ≡ size → Leaves sector r slot
-leaves-refused fault k e g h = rw e (g .0, g .1 ∙ ap (λ (j : ℕ). replicate j 0) h)
+-- A refused answer with no clock cells and a slot of zeros is the refused sector's; k is the length of the slot that was lent.
+pub leaves-refused : {size place : ℕ} {sector : Sector} {r : Answer} {clocks : ℕ} {slot : List ℕ} (fault : Fault) (k : ℕ)
+    → sector ≡ refused size fault place
+    → (r ≡ Refused fault) × (clocks ≡ 0) × (slot ≡ replicate k 0) → k ≡ size → Leaves sector r clocks slot
+leaves-refused fault k e g h = rw e (g .0, g .1, g .2 ∙ ap (λ (j : ℕ). replicate j 0) h)
 
--- An answer that is a sector's, with its place, gives the sector.
-pub gives-placed : {x y : Sector} {r : Answer} {slot : List ℕ} (p : ℕ) → y ≡ x → Leaves x r slot → p ≡ x .known .place
-    → Gives y (record { answer = r; place = p }) slot
-gives-placed {x} p e g h = rw e (ap₂ (λ (a : Answer) (m : ℕ). record { answer = a; place = m }) (g .0) h, g .1)
+-- An answer and clock cells that are a sector's, with its place, give the sector.
+pub gives-placed : {x y : Sector} {r : Answer} {clocks : ℕ} {slot : List ℕ} (p : ℕ) → y ≡ x → Leaves x r clocks slot → p ≡ x .known .place
+    → Gives y (record { answer = r; place = p; clocks = clocks }) slot
+gives-placed p e g h = rw e (same-record (g .0) h (g .1), g .2)
 
 module _ (t : Track) (c : ℕ → ℕ) (n m : ℕ) where
   -- ---- which mark stands, and so what decides: no two do, and one of the three does
@@ -40,39 +42,47 @@ module _ (t : Track) (c : ℕ → ℕ) (n m : ℕ) where
   pub other-mark : (j k : Mark) → (j ≡ k → ⊥) → stands (t .layout .mode) c n j m ≡ true → stands (t .layout .mode) c n k m ≡ false
   other-mark j k apart e = is-false (stands (t .layout .mode) c n k m) (λ f. apart (one-mark (t .layout .mode) c n m j k e f))
 
+  -- This mark stands, and what the block answers goes by it.
+  abbrev pub Decides : Mark → Answer → Type 0
+  Decides mark answer = (blockAnswer t c n m ≡ answer) × (markAt t c n m ≡ mark)
+
   module _ (d : Bool) (told : d ≡ stands (t .layout .mode) c n marks.Data m) where
-    pub is-data : d ≡ true → blockAnswer t c n m ≡ blockAfter t c n marks.Data m
-    unfolding blockAnswer
+    pub is-data : d ≡ true → Decides marks.Data (blockAfter t c n marks.Data m)
+    unfolding blockAnswer markAt
     is-data h =
         let e : stands (t .layout .mode) c n marks.Data m ≡ true = sym told ∙ h in
-        rw (other-mark marks.Data marks.Open (λ q. clash cc) e, other-mark marks.Data marks.Control (λ q. clash cc) e)
+        let shut = other-mark marks.Data marks.Open (λ q. clash cc) e in
+        let closed = other-mark marks.Data marks.Control (λ q. clash cc) e in
+        (rw (shut, closed), rw (shut, closed))
 
     module _ (k : Bool) (second : k ≡ stands (t .layout .mode) c n marks.Control m) where
-      pub is-control : k ≡ true → blockAnswer t c n m ≡ blockAfter t c n marks.Control m
-      unfolding blockAnswer
+      pub is-control : k ≡ true → Decides marks.Control (blockAfter t c n marks.Control m)
+      unfolding blockAnswer markAt
       is-control h =
           let e : stands (t .layout .mode) c n marks.Control m ≡ true = sym second ∙ h in
-          rw (other-mark marks.Control marks.Open (λ q. clash cc) e, e)
+          let shut = other-mark marks.Control marks.Open (λ q. clash cc) e in
+          (rw (shut, e), rw (shut, e))
 
-      is-open : d ≡ false → k ≡ false → BlockStands (t .layout .mode) c n m → blockAnswer t c n m ≡ Refused OpenMark
-      unfolding blockAnswer
+      pub is-open : d ≡ false → k ≡ false → BlockStands (t .layout .mode) c n m → Decides marks.Open (Refused OpenMark)
+      unfolding blockAnswer markAt
       is-open shut closed (inl e) = absurd (clash cc)
       is-open shut closed (inr (inl e)) = absurd (clash cc)
-      is-open shut closed (inr (inr e)) = rw e
-
-      -- An open block is refused; j is the length of the slot.
-      pub block-open : {r : Answer} {slot : List ℕ} (j : ℕ) → d ≡ false → k ≡ false → BlockStands (t .layout .mode) c n m
-          → (r ≡ Refused OpenMark) × (slot ≡ replicate j 0) → j ≡ t .layout .size → Leaves (identifierRecord t c n (Within m)) r slot
-      unfolding identifierRecord
-      block-open j shut closed one g e = rw (is-open shut closed one) (g .0, g .1 ∙ ap (λ (i : ℕ). replicate i 0) e)
+      is-open shut closed (inr (inr e)) = (rw e, rw e)
 
   -- ---- what the letter and the EDC decide: w is the cells of the mark, k the length of the slot
 
-  pub block-decided : {r : Answer} {slot : List ℕ} (mark : Mark) (w k : ℕ) → w ≡ markCells (t .layout .mode) → k ≡ t .layout .size
-      → blockAnswer t c n m ≡ blockAfter t c n mark m → Checks (t .cylinder) (t .layout .mode) mark c (m + w) k r slot
-      → Leaves (identifierRecord t c n (Within m)) r slot
-  unfolding identifierRecord blockAfter blockBytes
-  block-decided mark w k u h e g = rw (e, ← u, ← h) (g .0, g .1 ∙ ap (λ (a : Answer). slotOf k a (dataBytes c (m + w) k)) (g .0))
+  pub block-decided : {r : Answer} {clocks : ℕ} {slot : List ℕ} (mark : Mark) (w k : ℕ) → w ≡ markCells (t .layout .mode) → k ≡ t .layout .size
+      → Decides mark (blockAfter t c n mark m) → Checks (t .cylinder) (t .layout .mode) mark c (m + w) k r clocks slot
+      → Leaves (identifierRecord t c n (Within m)) r clocks slot
+  unfolding identifierRecord blockAfter blockBytes blockClocks
+  block-decided mark w k u h e g =
+      rw (e .0, e .1, ← u, ← h) (g .0, g .1, g .2 ∙ ap (λ (a : Answer). slotOf k a (dataBytes c (m + w) k)) (g .0))
+
+  -- An open block is refused.
+  pub block-open : {r : Answer} {clocks : ℕ} {slot : List ℕ} (w k : ℕ) → w ≡ markCells (t .layout .mode) → k ≡ t .layout .size
+      → Decides marks.Open (Refused OpenMark) → Opens (t .layout .mode) c (m + w) k r clocks slot → Leaves (identifierRecord t c n (Within m)) r clocks slot
+  unfolding identifierRecord blockClocks
+  block-open w k u h e g = rw (e .0, e .1, ← u, ← h) g
 
 -- ---- an identifier, and one more
 
@@ -85,8 +95,8 @@ module _ (t : Track) (c : ℕ → ℕ) (n : ℕ) (block : Block) where
   unfolding identifierRecord
   is-beyond m e = rw e
 
-  pub is-within : {r : Answer} {slot : List ℕ} (m : ℕ) → block ≡ Within m → Leaves (identifierRecord t c n (Within m)) r slot
-      → Leaves (identifierRecord t c n block) r slot
+  pub is-within : {r : Answer} {clocks : ℕ} {slot : List ℕ} (m : ℕ) → block ≡ Within m → Leaves (identifierRecord t c n (Within m)) r clocks slot
+      → Leaves (identifierRecord t c n block) r clocks slot
   is-within m e g = rw e g
 
   -- It fits 32 bits,

@@ -15,7 +15,7 @@ use Rattle.walk.specs.declared.Block.{Block}
 use Rattle.walk.specs.declared.Event.{Event}
 use Rattle.walk.specs.declared.Event.the-variants.{Bad, Foreign, Accepted}
 use Rattle.walk.proofs.Events.{bads-append, foreigns-append, blocks-own, blocks-other, blocks-bad, blocks-foreign}
-use Rattle.read.specs.Records.{Sector, itsAnswer, itsPlace, refused, recordFor, sectorOf, bySector, areaOf}
+use Rattle.read.specs.Records.{Sector, itsAnswer, itsPlace, itsClocks, refused, recordFor, sectorOf, bySector, areaOf}
 use Rattle.read.specs.Turns.{next}
 use Rattle.answers.specs.Answers.{noPlace, unanswered}
 use Rattle.answers.specs.declared.Fault.the-variants.{NoIdentifier}
@@ -78,11 +78,12 @@ module _ (t : Track) (c : ℕ → ℕ) (n : ℕ) where
   -- ---- the state
 
   -- The reader holds what the events met so far give, and these are left of all.
-  pub record State (all left : List Event) (answers : List Answered) (places area : List ℕ) (bad foreign : ℕ) : Type 0 where
+  pub record State (all left : List Event) (answers : List Answered) (places clocks area : List ℕ) (bad foreign : ℕ) : Type 0 where
     pub done : List Event
     pub whole : all ≡ done ++ left
     pub has-answers : answers ≡ bySector t c n itsAnswer done
     pub has-places : places ≡ bySector t c n itsPlace done
+    pub has-clocks : clocks ≡ bySector t c n itsClocks done
     pub has-area : area ≡ areaOf t c n done
     pub has-bad : bad ≡ bads done
     pub has-foreign : foreign ≡ foreigns done
@@ -97,7 +98,7 @@ module _ (t : Track) (c : ℕ → ℕ) (n : ℕ) where
 
   -- At the start nothing has been met.
   pub state-start : (all left : List Event) (area : List ℕ) → all ≡ left → area ≡ replicate (t .layout .sectors * t .layout .size) 0
-      → State all left (replicate mostSectors unanswered) (replicate mostSectors noPlace) area 0 0
+      → State all left (replicate mostSectors unanswered) (replicate mostSectors noPlace) (replicate mostSectors 0) area 0 0
   unfolding bads foreigns bySector areaOf
   state-start all left area e a =
       record {
@@ -105,6 +106,7 @@ module _ (t : Track) (c : ℕ → ℕ) (n : ℕ) where
         whole = e;
         has-answers = sym (map-all (λ s. itsAnswer (sectorOf t c n [] s)) unanswered (λ s. ap itsAnswer (nothing-met s)) mostSectors 1);
         has-places = sym (map-all (λ s. itsPlace (sectorOf t c n [] s)) noPlace (λ s. ap itsPlace (nothing-met s)) mostSectors 1);
+        has-clocks = sym (map-all (λ s. itsClocks (sectorOf t c n [] s)) 0 (λ s. ap itsClocks (nothing-met s)) mostSectors 1);
         has-area =
             a
             ∙ sym (slots-zero (t .layout .size) (λ s. sectorOf t c n [] s .slot) (λ s. ap (λ (x : Sector). x .slot) (nothing-met s)) (t .layout .sectors) 1);
@@ -112,16 +114,17 @@ module _ (t : Track) (c : ℕ → ℕ) (n : ℕ) where
         has-foreign = refl;
       }
 
-  module _ {all left rest : List Event} {answers : List Answered} {places area : List ℕ} {bad foreign : ℕ}
-      (state : State all left answers places area bad foreign) where
+  module _ {all left rest : List Event} {answers : List Answered} {places clocks area : List ℕ} {bad foreign : ℕ}
+      (state : State all left answers places clocks area bad foreign) where
     -- The same is left, said otherwise.
-    pub state-left : left ≡ rest → State all rest answers places area bad foreign
+    pub state-left : left ≡ rest → State all rest answers places clocks area bad foreign
     state-left f =
         record {
           done = state .done;
           whole = state .whole ∙ ap (λ x. state .done ++ x) f;
           has-answers = state .has-answers;
           has-places = state .has-places;
+          has-clocks = state .has-clocks;
           has-area = state .has-area;
           has-bad = state .has-bad;
           has-foreign = state .has-foreign;
@@ -130,7 +133,7 @@ module _ (t : Track) (c : ℕ → ℕ) (n : ℕ) where
     onto : (e : Event) → left ≡ e ∷ rest → all ≡ (state .done ++ e ∷ []) ++ rest
     onto e f = state .whole ∙ ap (λ x. state .done ++ x) f ∙ sym (append-assoc (state .done) (e ∷ []) rest)
 
-    pub state-bad : left ≡ Bad ∷ rest → State all rest answers places area (bad + 1) foreign
+    pub state-bad : left ≡ Bad ∷ rest → State all rest answers places clocks area (bad + 1) foreign
     unfolding bads foreigns
     state-bad f =
         record {
@@ -138,12 +141,13 @@ module _ (t : Track) (c : ℕ → ℕ) (n : ℕ) where
           whole = onto Bad f;
           has-answers = state .has-answers ∙ sym (said-kept itsAnswer _ _ (λ s. blocks-bad s (state .done)));
           has-places = state .has-places ∙ sym (said-kept itsPlace _ _ (λ s. blocks-bad s (state .done)));
+          has-clocks = state .has-clocks ∙ sym (said-kept itsClocks _ _ (λ s. blocks-bad s (state .done)));
           has-area = state .has-area ∙ sym (area-kept _ _ (λ s. blocks-bad s (state .done)));
           has-bad = ap (λ (k : ℕ). k + 1) (state .has-bad) ∙ sym (bads-append (state .done) (Bad ∷ []));
           has-foreign = omega (arith, state .has-foreign, foreigns-append (state .done) (Bad ∷ []));
         }
 
-    pub state-foreign : left ≡ Foreign ∷ rest → State all rest answers places area bad (foreign + 1)
+    pub state-foreign : left ≡ Foreign ∷ rest → State all rest answers places clocks area bad (foreign + 1)
     unfolding bads foreigns
     state-foreign f =
         record {
@@ -151,33 +155,43 @@ module _ (t : Track) (c : ℕ → ℕ) (n : ℕ) where
           whole = onto Foreign f;
           has-answers = state .has-answers ∙ sym (said-kept itsAnswer _ _ (λ s. blocks-foreign s (state .done)));
           has-places = state .has-places ∙ sym (said-kept itsPlace _ _ (λ s. blocks-foreign s (state .done)));
+          has-clocks = state .has-clocks ∙ sym (said-kept itsClocks _ _ (λ s. blocks-foreign s (state .done)));
           has-area = state .has-area ∙ sym (area-kept _ _ (λ s. blocks-foreign s (state .done)));
           has-bad = omega (arith, state .has-bad, bads-append (state .done) (Foreign ∷ []));
           has-foreign = ap (λ (k : ℕ). k + 1) (state .has-foreign) ∙ sym (foreigns-append (state .done) (Foreign ∷ []));
         }
 
-    pub state-accepted : (s : ℕ) (b : Block) (d : Answered) {answers′ : List Answered} {places′ area′ : List ℕ} → left ≡ Accepted s b ∷ rest
+    pub state-accepted : (s : ℕ) (b : Block) (d : Answered) {answers′ : List Answered} {places′ clocks′ area′ : List ℕ} → left ≡ Accepted s b ∷ rest
         → t .layout .sectors ≤ mostSectors → 1 ≤ t .layout .size → 1 ≤ s → s ≤ t .layout .sectors
         → answers′ ≡ set answers (s - 1) (itsAnswer (next t c n (getD answers (s - 1) d .answer) b))
         → places′ ≡ set places (s - 1) (itsPlace (next t c n (getD answers (s - 1) d .answer) b))
+        → clocks′ ≡ set clocks (s - 1) (itsClocks (next t c n (getD answers (s - 1) d .answer) b))
         → area′ ≡ sets area ((s - 1) * t .layout .size) (next t c n (getD answers (s - 1) d .answer) b .slot)
-        → State all rest answers′ places′ area′ bad foreign
+        → State all rest answers′ places′ clocks′ area′ bad foreign
     unfolding bads foreigns
-    state-accepted s b d f few some low high r p a =
+    state-accepted s b d f few some low high r p k a =
         record {
           done = state .done ++ Accepted s b ∷ [];
           whole = onto (Accepted s b) f;
           has-answers = r ∙ rw (state .has-answers) (sym (said-next (state .done) s few low high itsAnswer b d));
           has-places = p ∙ rw (state .has-answers, state .has-places) (sym (said-next (state .done) s few low high itsPlace b d));
+          has-clocks = k ∙ rw (state .has-answers, state .has-clocks) (sym (said-next (state .done) s few low high itsClocks b d));
           has-area = a ∙ rw (state .has-answers, state .has-area) (sym (area-next (state .done) s few low high some b d));
           has-bad = omega (arith, state .has-bad, bads-append (state .done) (Accepted s b ∷ []));
           has-foreign = omega (arith, state .has-foreign, foreigns-append (state .done) (Accepted s b ∷ []));
         }
 
   -- Where nothing is left, all has been met.
-  pub state-end : {all left : List Event} {answers : List Answered} {places area : List ℕ} {bad foreign : ℕ}
-      → State all left answers places area bad foreign → left ≡ []
-      → (answers ≡ bySector t c n itsAnswer all) × (places ≡ bySector t c n itsPlace all) × (area ≡ areaOf t c n all) × (bad ≡ bads all) × (foreign ≡ foreigns all)
+  pub state-end : {all left : List Event} {answers : List Answered} {places clocks area : List ℕ} {bad foreign : ℕ}
+      → State all left answers places clocks area bad foreign → left ≡ []
+      → (answers ≡ bySector t c n itsAnswer all) × (places ≡ bySector t c n itsPlace all) × (clocks ≡ bySector t c n itsClocks all)
+      × (area ≡ areaOf t c n all) × (bad ≡ bads all) × (foreign ≡ foreigns all)
   state-end {all} state f =
-      let e : state .done ≡ all = sym (append-nil (state .done)) ∙ ap (λ x. state .done ++ x) (sym f) ∙ sym (state .whole) in
-      (rw (← e) (state .has-answers), rw (← e) (state .has-places), rw (← e) (state .has-area), rw (← e) (state .has-bad), rw (← e) (state .has-foreign))
+      let e : state .done ≡ all = sym (append-nil (state .done)) ∙ ap (λ x. state .done ++ x) (sym f) ∙ sym (state .whole) in (
+        rw (← e) (state .has-answers),
+        rw (← e) (state .has-places),
+        rw (← e) (state .has-clocks),
+        rw (← e) (state .has-area),
+        rw (← e) (state .has-bad),
+        rw (← e) (state .has-foreign),
+      )

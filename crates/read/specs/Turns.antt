@@ -1,20 +1,20 @@
 -- What the reader does as it goes: how a block's bytes come into a slot, and what is known of a sector once one more of its identifiers was accepted.
 -- (Aids of the code; the law `record-next` says that the latter is the definition's. No promise rests on them.)
 use mathlib.Core.Bool.{Bool, true, false, cond}
-use mathlib.Core.List.{List, _++_}
+use mathlib.Core.List.{List}
 use mathlib.Core.Path.{_≡_}
 use Prim.Native.Nat.{ℕ, _+_, _-_, _*_, _≤_}
-use lib.ListN.{length, getD}
+use lib.ListN.{length, getD, replicate}
 use lib.Seq.{sets}
-use Rattle.cells.specs.Cells.{cell, dataBytes}
+use Rattle.cells.specs.Cells.{cell, dataByte, dataBytes, bytesClocks}
 use Rattle.cells.specs.declared.Mode.{Mode}
-use Rattle.edc.specs.Register.{edcOf}
 use Rattle.layouts.specs.Layouts.{mostSectors}
 use Rattle.layouts.specs.declared.Layout.{Layout}
 use Rattle.layouts.specs.declared.Track.{Track}
-use Rattle.marks.specs.Marks.{covered}
+use Rattle.marks.specs.Marks.{lastBit}
 use Rattle.marks.specs.Outcomes.{Housed}
 use Rattle.marks.specs.declared.Mark.{Mark}
+use Rattle.marks.specs.declared.Mark.the-variants as marks
 use Rattle.walk.specs.Walk.{edcRight}
 use Rattle.walk.specs.Turns.{Placed}
 use Rattle.read.specs.Records.{Sector, slotOf, refused, identifierRecord}
@@ -46,9 +46,9 @@ LentAll t image sector block area =
     × Placed (t .layout .mode) (cell image) (8 * length image) block
     × (length area ≡ t .layout .sectors * t .layout .size)
 
--- A function that is lent a slot gives the answer of this sector, and leaves its bytes.
-abbrev pub Leaves : Sector → Answer → (after : List ℕ) → Type 0
-Leaves sector answer after = (answer ≡ sector .known .answer) × (after ≡ sector .slot)
+-- A function that is lent a slot gives the answer of this sector and its doubtful clock cells, and leaves its bytes.
+abbrev pub Leaves : Sector → Answer → (clocks : ℕ) → (after : List ℕ) → Type 0
+Leaves sector answer clocks after = (answer ≡ sector .known .answer) × (clocks ≡ sector .known .clocks) × (after ≡ sector .slot)
 
 -- The same of a function that gives the whole record.
 abbrev pub Gives : Sector → Record → List ℕ → Type 0
@@ -59,15 +59,27 @@ abbrev pub Enters : Sector → (size number : ℕ) → (before : List ℕ) → R
 Enters sector size number before answer after = (answer ≡ sector .known) × (after ≡ sets before ((number - 1) * size) (sector .slot))
 
 module _ (mode : Mode) (mark : Mark) where
-  -- The slot's k bytes are those from cell p on, and the register is the one after the mark, these and the two behind them.
-  abbrev pub Decodes : (ℕ → ℕ) → (p k register : ℕ) → (after : List ℕ) → Type 0
-  Decodes c p k register after = (after ≡ dataBytes c p k) × (register ≡ edcOf (covered mode mark ++ dataBytes c p (k + 2)))
+  -- Behind the mark, which ends at cell p: the slot's k bytes are those from there on, the two of the EDC those behind them, and so many clock cells of
+  -- them all are doubtful.
+  abbrev pub Decodes : (ℕ → ℕ) → (p k high low clocks : ℕ) → (after : List ℕ) → Type 0
+  Decodes c p k high low clocks after =
+      (after ≡ dataBytes c p k)
+      × (high ≡ dataByte c (p + 16 * k))
+      × (low ≡ dataByte c (p + 16 * k + 16))
+      × (clocks ≡ bytesClocks mode c (lastBit mark) p (k + 2))
 
--- Of the k bytes at p, after this mark and on this cylinder: what the block answers, and what the answer leaves of them in the slot.
-abbrev pub Checks : (cylinder : ℕ) → Mode → Mark → (ℕ → ℕ) → (p k : ℕ) → Answer → (after : List ℕ) → Type 0
-Checks cylinder mode mark c p k answer after =
+-- Of the k bytes at p, after this mark and on this cylinder: what the block answers, how many of its clock cells are doubtful, and what the answer leaves
+-- of the bytes in the slot.
+abbrev pub Checks : (cylinder : ℕ) → Mode → Mark → (ℕ → ℕ) → (p k : ℕ) → Answer → (clocks : ℕ) → (after : List ℕ) → Type 0
+Checks cylinder mode mark c p k answer clocks after =
     (answer ≡ answerAfter cylinder mark (getD (dataBytes c p k) 0 0) (edcRight mode c mark p (k + 2)))
+    × (clocks ≡ bytesClocks mode c (lastBit mark) p (k + 2))
     × (after ≡ slotOf k answer (dataBytes c p k))
+
+-- The same after an open mark.
+abbrev pub Opens : Mode → (ℕ → ℕ) → (p k : ℕ) → Answer → (clocks : ℕ) → (after : List ℕ) → Type 0
+Opens mode c p k answer clocks after =
+    (answer ≡ Refused OpenMark) × (clocks ≡ bytesClocks mode c (lastBit marks.Open) p (k + 2)) × (after ≡ replicate k 0)
 
 -- The place that a block gives its sector.
 abbrev pub placeOf : Block → ℕ

@@ -1,5 +1,5 @@
-// A sector's block: its bytes go into the slot as they are decoded, and into the register with them. Each function here is lent the sector's
-// slot, and gives the answer, or the whole record, that goes with what it leaves there.
+// A sector's block: its bytes go into the slot as they are decoded, and their doubtful clock cells are counted with them. Those that are
+// lent the slot give what goes with what they leave there: the answer, with the sum where a block was decoded, or the whole record.
 use answers::Answer;
 use answers::Fault;
 use answers::LETTER_F;
@@ -10,31 +10,52 @@ use layouts::Track;
 use marks::Mark;
 use walk::Block;
 ghost use mathlib.Core.Path.{_≡_};
+ghost use mathlib.Core.List.{_++_, _∷_, []};
 ghost use Prim.Native.Nat.{_+_, _*_, _≤_};
 ghost use lib.ListN.{length, replicate};
 ghost use Rattle.cells.specs.Cells.{cell};
+ghost use Rattle.edc.specs.Register.{edcOf};
+ghost use Rattle.marks.specs.Marks.{covered};
 ghost use Rattle.walk.specs.declared.Block.the-variants.{Within};
 ghost use Rattle.read.specs.Records.{slotOf, identifierRecord};
-ghost use Rattle.read.specs.Turns.{Lent, Leaves, Gives, Decodes, Checks, placeOf, unmet, next};
+ghost use Rattle.read.specs.Turns.{Lent, Leaves, Gives, Decodes, Checks, Opens, placeOf, unmet, next};
 ghost use Rattle.answers.specs.declared.Answer.the-variants.{Refused, Defective};
 
-// What decoding a block says besides its bytes: the register once the mark, the bytes and the two behind them have entered it.
+// What decoding a block says besides its bytes: the two of the EDC behind them, and how many clock cells of them all are doubtful.
 struct Decoded {
-    register: u16,
+    high: u8,
+    low: u8,
+    clocks: u32,
 }
 
-// Fills the slot with the data bytes from `place` on.
+// What a block says of its sector besides the slot.
+struct Told {
+    answer: Answer,
+    clocks: u32,
+}
+
+// Fills the slot with the data bytes from `place` on, where the mark ends.
 fn decode(mode: Mode, mark: Mark, image: &[u8], place: usize, slot: &mut [u8]) -> Decoded
-    requires { ⌜ place + 16 * length (now slot) ≤ 4294967296 ⌝ }
-    ensures { λ r. ⌜ Decodes mode mark (cell (now (image .entry))) place (length (now (slot .entry))) (r .register) (now (slot .exit)) ⌝ }
+    requires { ⌜ (place + 16 * length (now slot) ≤ 4294967296) × (1 ≤ length (now slot)) ⌝ }
+    ensures { λ r. ⌜ Decodes mode mark (cell (now (image .entry))) place (length (now (slot .entry))) (r .high) (r .low) (r .clocks) (now (slot .exit)) ⌝ }
 {
-    cells::data_bytes(image, place, slot);
+    let read = cells::read_bytes(mode, marks::last_bit(mark), image, place, slot);
     let end = place + 16 * slot.len();
-    let register = edc::bytes_entered(marks::register_after(mode, mark), slot);
-    let high = edc::byte_entered(register, cells::data_byte(image, end));
+    let high = cells::read_byte(mode, slot[slot.len() - 1] % 2, image, end);
+    let low = cells::read_byte(mode, high.byte % 2, image, end + 16);
     Decoded {
-        register: edc::byte_entered(high, cells::data_byte(image, end + 16)),
+        high: high.byte,
+        low: low.byte,
+        clocks: read.clocks + high.clocks + low.clocks,
     }
+}
+
+// The register once the mark, the slot's bytes and the two behind them have entered it.
+fn register_of(mode: Mode, mark: Mark, slot: &[u8], high: u8, low: u8) -> u16
+    ensures { λ r. ⌜ r ≡ edcOf (covered mode mark ++ (now (slot .entry) ++ high ∷ low ∷ [])) ⌝ }
+{
+    let register = edc::bytes_entered(marks::register_after(mode, mark), slot);
+    edc::byte_entered(edc::byte_entered(register, high), low)
 }
 
 // A refused sector: its slot is all zero.
@@ -76,19 +97,35 @@ fn checked(
     image: &[u8],
     place: usize,
     slot: &mut [u8],
-) -> Answer
+) -> Told
     requires { ⌜ (place + 16 * length (now slot) ≤ 4294967296) × (1 ≤ length (now slot)) ⌝ }
-    ensures { λ r. ⌜ Checks cylinder mode mark (cell (now (image .entry))) place (length (now (slot .entry))) r (now (slot .exit)) ⌝ }
+    ensures { λ r. ⌜ Checks cylinder mode mark (cell (now (image .entry))) place (length (now (slot .entry))) (r .answer) (r .clocks) (now (slot .exit)) ⌝ }
 {
     let decoded = decode(mode, mark, image, place, slot);
-    let answer = answers::answer_after(cylinder, mark, slot[0], decoded.register == 0);
-    settled(answer, slot)
+    let register = register_of(mode, mark, slot, decoded.high, decoded.low);
+    let answer = answers::answer_after(cylinder, mark, slot[0], register == 0);
+    Told {
+        answer: settled(answer, slot),
+        clocks: decoded.clocks,
+    }
 }
 
-// What the block answers whose mark stands at `place`, by itself.
-fn block_answer(track: Track, image: &[u8], place: usize, slot: &mut [u8]) -> Answer
+// The block whose bytes begin at `place`, after an open mark: its EDC is not looked at, and nothing of it is left.
+fn opened(mode: Mode, image: &[u8], place: usize, slot: &mut [u8]) -> Told
+    requires { ⌜ (place + 16 * length (now slot) ≤ 4294967296) × (1 ≤ length (now slot)) ⌝ }
+    ensures { λ r. ⌜ Opens mode (cell (now (image .entry))) place (length (now (slot .entry))) (r .answer) (r .clocks) (now (slot .exit)) ⌝ }
+{
+    let decoded = decode(mode, Mark::Open, image, place, slot);
+    Told {
+        answer: refused(Fault::OpenMark, slot),
+        clocks: decoded.clocks,
+    }
+}
+
+// What the block says whose mark stands at `place`, by itself.
+fn block_told(track: Track, image: &[u8], place: usize, slot: &mut [u8]) -> Told
     requires { ⌜ Lent track (now image) (Within place) (now slot) ⌝ }
-    ensures { λ r. ⌜ Leaves (identifierRecord track (cell (now (image .entry))) (8 * length (now (image .entry))) (Within place)) r (now (slot .exit)) ⌝ }
+    ensures { λ r. ⌜ Leaves (identifierRecord track (cell (now (image .entry))) (8 * length (now (image .entry))) (Within place)) (r .answer) (r .clocks) (now (slot .exit)) ⌝ }
 {
     let layout = track.layout;
     let mode = layout.mode;
@@ -100,18 +137,28 @@ fn block_answer(track: Track, image: &[u8], place: usize, slot: &mut [u8]) -> An
     if marks::stands(mode, Mark::Control, image, place) {
         return checked(track.cylinder, mode, Mark::Control, image, bytes, slot);
     }
-    refused(Fault::OpenMark, slot)
+    opened(mode, image, bytes, slot)
 }
 
-// What an accepted identifier answers for its sector, where it is the first.
-fn identifier_answer(track: Track, image: &[u8], block: Block, slot: &mut [u8]) -> Answer
+// A sector of which no whole block was found, or more than one identifier: it is refused, and no clock cell counts.
+fn blockless(fault: Fault, slot: &mut [u8]) -> Told
+    ensures { λ r. ⌜ (r .answer ≡ Refused fault) × (r .clocks ≡ 0) × (now (slot .exit) ≡ replicate (length (now (slot .entry))) 0) ⌝ }
+{
+    Told {
+        answer: refused(fault, slot),
+        clocks: 0,
+    }
+}
+
+// What an accepted identifier says of its sector, where it is the first.
+fn identifier_told(track: Track, image: &[u8], block: Block, slot: &mut [u8]) -> Told
     requires { ⌜ Lent track (now image) block (now slot) ⌝ }
-    ensures { λ r. ⌜ Leaves (identifierRecord track (cell (now (image .entry))) (8 * length (now (image .entry))) block) r (now (slot .exit)) ⌝ }
+    ensures { λ r. ⌜ Leaves (identifierRecord track (cell (now (image .entry))) (8 * length (now (image .entry))) block) (r .answer) (r .clocks) (now (slot .exit)) ⌝ }
 {
     match block {
-        Block::Missing => refused(Fault::NoBlock, slot),
-        Block::Beyond(_) => refused(Fault::PastEnd, slot),
-        Block::Within(place) => block_answer(track, image, place, slot),
+        Block::Missing => blockless(Fault::NoBlock, slot),
+        Block::Beyond(_) => blockless(Fault::PastEnd, slot),
+        Block::Within(place) => block_told(track, image, place, slot),
     }
 }
 
@@ -159,13 +206,19 @@ pub(crate) fn next_record(
     ensures { λ r. ⌜ Gives (next track (cell (now (image .entry))) (8 * length (now (image .entry))) before block) r (now (slot .exit)) ⌝ }
 {
     if is_unmet(before) {
+        let told = identifier_told(track, image, block, slot);
+        let answer = told.answer;
         return Record {
-            answer: identifier_answer(track, image, block, slot),
+            answer,
             place: place_of(block),
+            clocks: told.clocks,
         };
     }
+    let told = blockless(Fault::Doubled, slot);
+    let answer = told.answer;
     Record {
-        answer: refused(Fault::Doubled, slot),
+        answer,
         place: NO_PLACE,
+        clocks: told.clocks,
     }
 }

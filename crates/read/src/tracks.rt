@@ -46,6 +46,7 @@ pub(crate) fn read_track(track: Track, image: &[u8], area: &mut [u8]) -> Reading
     let unread = answers::unread_records();
     let mut answers = unread.answers;
     let mut places = unread.places;
+    let mut clocks = unread.clocks;
     // in this order, in which the back end holds the bad ones in a register: noise is full of them
     let mut foreign: u32 = 0;
     let mut bad: u32 = 0;
@@ -72,6 +73,7 @@ pub(crate) fn read_track(track: Track, image: &[u8], area: &mut [u8]) -> Reading
                         let answer = after.answer;
                         answers[sector - 1] = Answered { answer };
                         places[sector - 1] = after.place;
+                        clocks[sector - 1] = after.clocks;
                     }
                 }
                 place = next;
@@ -82,7 +84,11 @@ pub(crate) fn read_track(track: Track, image: &[u8], area: &mut [u8]) -> Reading
     Reading {
         verdict: Checked::Passed,
         sectors: layout.sectors,
-        records: Records { answers, places },
+        records: Records {
+            answers,
+            places,
+            clocks,
+        },
         bad,
         foreign,
     }

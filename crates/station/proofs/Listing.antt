@@ -4,7 +4,7 @@ use mathlib.Core.Bool.{Bool, true, false, cond}
 use mathlib.Core.List.{List, [], _∷_, _++_, append-assoc}
 use Prim.Native.Nat.{ℕ, zero, suc, _+_, _-_, _*_, _<_, _≤_}
 use native.Mathlib.Nat.{suc-mul, add-mul, suc-add}
-use native.Mathlib.Numerals.{add-one}
+use native.Mathlib.Numerals.{add-one, add-two}
 use native.Mathlib.Omega.{arith}
 use borrow.Author.Tests.{le-leb, lt-leb}
 use lib.Dec.{leb}
@@ -89,6 +89,10 @@ slot-past sector list e h =
     let d : drop ((sector - 1) * recordWidth) list ≡ [] = drop-of-length-le list {i = (sector - 1) * recordWidth} (omega arith) in
     rw d
 
+-- The list in which a record's numbers are stored, one after the other, from an index on.
+abbrev pub stored : (list given : List ℕ) (at : ℕ) → List ℕ
+stored list given at = set (set (set list at (getD given 0 0)) (at + 1) (getD given 1 0)) (at + 2) (getD given 2 0)
+
 -- ---- the records of a track
 
 module _ (count : ℕ) (records : Records) where
@@ -103,21 +107,20 @@ module _ (count : ℕ) (records : Records) where
 
   -- The record at an index, as the loop finds it.
   abbrev listedAt : ℕ → Record
-  listedAt i = record { answer = getD (records .answers) i unanswered .answer; place = getD (records .places) i 0 }
+  listedAt i =
+      record { answer = getD (records .answers) i unanswered .answer; place = getD (records .places) i 0; clocks = getD (records .clocks) i 0 }
 
   -- What is left to list of the sectors that there are.
   abbrev pub left : ℕ → List ℕ
   left i = rest (sectorNumbers count records) recordWidth sector-wide count i
 
   pub listed-turn : (list given : List ℕ) (i : ℕ) → i < count → given ≡ recordNumbers (listedAt i)
-      → sets list (i * recordWidth) (left i)
-      ≡ sets (set (set list (i * recordWidth) (getD given 0 0)) (i * recordWidth + 1) (getD given 1 0)) ((i + 1) * recordWidth) (left (i + 1))
+      → sets list (i * recordWidth) (left i) ≡ sets (stored list given (i * recordWidth)) ((i + 1) * recordWidth) (left (i + 1))
   unfolding sectorNumbers
   listed-turn list given i h e =
       let k : i + 1 - 1 ≡ i = omega arith in
-      let same : sets list (i * recordWidth) (sectorNumbers count records (i + 1))
-      ≡ set (set list (i * recordWidth) (getD given 0 0)) (i * recordWidth + 1) (getD given 1 0) =
-      rw (le-leb (i + 1) count (omega arith), k, add-one (i * recordWidth), e) in
+      let same : sets list (i * recordWidth) (sectorNumbers count records (i + 1)) ≡ stored list given (i * recordWidth) =
+      rw (le-leb (i + 1) count (omega arith), k, add-one (i * recordWidth), add-two (i * recordWidth), e) in
       list-turn (sectorNumbers count records) recordWidth sector-wide count list i h
       ∙ ap (λ (x : List ℕ). sets x ((i + 1) * recordWidth) (left (i + 1))) same
 

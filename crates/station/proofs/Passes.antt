@@ -30,7 +30,7 @@ use Rattle.station.proofs.Listing.{listed-at}
 
 -- A record comes back from its numbers.
 pub record-back : (r : Record) → numberedRecord (recordNumbers r) ≡ r
-record-back r = ap (λ a. record { answer = a; place = r .place }) (answer-back (r .answer))
+record-back r = ap (λ a. record { answer = a; place = r .place; clocks = r .clocks }) (answer-back (r .answer))
 
 -- Sector by sector, the records of what `station_read` gives are the read's. (Past the layout's count, and where the call is refused, it gives zeros.)
 pub read-back : (layout cylinder side : ℕ) (image : List ℕ) (given number : ℕ) (area list counts : List ℕ)

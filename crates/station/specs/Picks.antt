@@ -24,7 +24,7 @@ pickNumber (Neither r) = answerNumber (r .answer)
 pickNumber (Refused f) = refusalNumber f
 
 -- The numbers of the record that is handed on: of the pass that is taken, or of the first where neither answered; zeros where the call is refused
--- (02, Req 01).
+-- (02, Req 01 and Req 06).
 abbrev pub handedOn : Choice → List ℕ
 handedOn (First r) = recordNumbers r
 handedOn (Second r) = recordNumbers r

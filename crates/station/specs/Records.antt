@@ -13,15 +13,16 @@ use Rattle.answers.specs.declared.Records.{Records}
 
 -- How many numbers a record is handed out in.
 abbrev pub recordWidth : ℕ
-recordWidth = 2
+recordWidth = 3
 
--- A record's numbers: its answer's (01, "How a track is read"), and its place (02, Req 01).
+-- A record's numbers: its answer's (01, "How a track is read"), its place (02, Req 01), and how many of its clock cells are doubtful (02, Req 06).
 abbrev pub recordNumbers : Record → List ℕ
-recordNumbers r = answerNumber (r .answer) ∷ r .place ∷ []
+recordNumbers r = answerNumber (r .answer) ∷ r .place ∷ r .clocks ∷ []
 
--- The record that has these numbers (the law `record-back`). A number that is missing counts as 0.
+-- The record that has these numbers (the law `record-back`). A first number that is no answer's counts as 21; the others are taken as they are
+-- (02, Req 06), and one that is missing counts as 0.
 abbrev pub numberedRecord : List ℕ → Record
-numberedRecord given = record { answer = answerOf (getD given 0 0); place = getD given 1 0 }
+numberedRecord given = record { answer = answerOf (getD given 0 0); place = getD given 1 0; clocks = getD given 2 0 }
 
 -- The numbers of sector s, or zeros past the count (01, "How a track is read").
 unfoldable pub sectorNumbers : (count : ℕ) → Records → ℕ → List ℕ

@@ -72,8 +72,9 @@ pub extern "C" fn station_format(
     calls::checked_number(answer)
 }
 
-// Reads a track: 0, or the number of the refusal. `area` gets a slot for each sector number, `records` two numbers by sector, the answer's and
-// the place, and zeros past the layout's count, `counts` the bad and the foreign identifiers. A refused read leaves zeros in all three.
+// Reads a track: 0, or the number of the refusal. `area` gets a slot for each sector number, `records` three numbers by sector, the answer's, the
+// place, and how many clock cells are doubtful, and zeros past the layout's count, `counts` the bad and the foreign identifiers. A refused read
+// leaves zeros in all three.
 #[no_mangle]
 pub extern "C" fn station_read(
     layout: u32,
@@ -81,13 +82,13 @@ pub extern "C" fn station_read(
     side: u32,
     image: &[u8],
     area: &mut [u8],
-    records: &mut [u32; 52],
+    records: &mut [u32; 78],
     counts: &mut [u32; 2],
 ) -> u8
     ensures { λ r. ⌜ GivesRead layout cylinder side (now (image .entry)) (length (now (area .entry))) r (now (area .exit)) (now (records .exit)) (now (counts .exit)) ⌝ }
 {
     let reading = read::read(layout, cylinder, side, image, area);
-    *records = [0; 52];
+    *records = [0; 78];
     records::list_sectors(reading.sectors, reading.records, records);
     *counts = [reading.bad, reading.foreign];
     let verdict = reading.verdict;
@@ -95,19 +96,20 @@ pub extern "C" fn station_read(
 }
 
 // Picks a sector from two passes over one track: the number of its answer, or of the refusal. Each pass is the area and the records that
-// `station_read` gave; a number that is no answer's counts as 21. `taken` gets the pass that the sector is taken from (1 the first, 2 the
-// second), the first byte of its slot in that pass's area and the slot's length, or zeros where neither pass answered or the call is refused.
-// `record` gets the record of the pass that is taken, or of the first where neither answered, or zeros where the call is refused.
+// `station_read` gave; of a record a first number that is no answer's counts as 21, and the other two are handed on as they are. `taken` gets the
+// pass that the sector is taken from (1 the first, 2 the second), the first byte of its slot in that pass's area and the slot's length, or zeros
+// where neither pass answered or the call is refused. `record` gets the record of the pass that is taken, or of the first where neither answered, or
+// zeros where the call is refused.
 #[no_mangle]
 pub extern "C" fn station_pick(
     layout: u32,
     sector: u32,
     first: &[u8],
-    first_records: &[u32; 52],
+    first_records: &[u32; 78],
     second: &[u8],
-    second_records: &[u32; 52],
+    second_records: &[u32; 78],
     taken: &mut [u32; 3],
-    record: &mut [u32; 2],
+    record: &mut [u32; 3],
 ) -> u8
     ensures { λ r. ⌜ GivesPick layout sector (now (first .entry)) (now («first_records» .entry)) (now (second .entry)) (now («second_records» .entry)) r (now (taken .exit)) (now («record» .exit)) ⌝ }
 {

@@ -10,7 +10,7 @@ ghost use Rattle.answers.specs.Answers.{answerNumber};
 ghost use Rattle.station.specs.Records.{recordWidth, recordNumbers, recordList, numberedAt};
 
 // How many numbers a record is handed out in.
-pub(crate) const WIDTH: usize = 2;
+pub(crate) const WIDTH: usize = 3;
 
 // The number of a record's answer.
 pub(crate) fn record_number(record: Record) -> u8
@@ -20,11 +20,11 @@ pub(crate) fn record_number(record: Record) -> u8
     answers::answer_number(answer)
 }
 
-// A record's numbers.
+// A record's numbers: its answer's, its place, and how many of its clock cells are doubtful.
 pub(crate) fn record_numbers(record: Record) -> [u32; WIDTH]
     ensures { λ r. ⌜ r ≡ recordNumbers «record» ⌝ }
 {
-    [record_number(record) as u32, record.place]
+    [record_number(record) as u32, record.place, record.clocks]
 }
 
 // Lists the numbers of the sectors that there are, in a list of zeros.
@@ -37,9 +37,15 @@ pub(crate) fn list_sectors(count: usize, records: Records, list: &mut [u32])
         let answered = records.answers[i];
         let answer = answered.answer;
         let place = records.places[i];
-        let numbers = record_numbers(Record { answer, place });
+        let clocks = records.clocks[i];
+        let numbers = record_numbers(Record {
+            answer,
+            place,
+            clocks,
+        });
         list[i * WIDTH] = numbers[0];
         list[i * WIDTH + 1] = numbers[1];
+        list[i * WIDTH + 2] = numbers[2];
         i += 1;
     }
 }
@@ -63,13 +69,16 @@ pub(crate) fn record_at(list: &[u32], sector: u32) -> Record
     if index < MOST_SECTORS {
         let number = list[index * WIDTH];
         let place = list[index * WIDTH + 1];
+        let clocks = list[index * WIDTH + 2];
         return Record {
             answer: answers::answer_of(number),
             place,
+            clocks,
         };
     }
     Record {
         answer: answers::answer_of(0),
         place: 0,
+        clocks: 0,
     }
 }

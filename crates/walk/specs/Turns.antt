@@ -6,12 +6,12 @@ use mathlib.Core.Logic.{_⊎_}
 use mathlib.Core.Path.{_≡_}
 use Prim.Native.Nat.{ℕ, _+_, _≤_}
 use lib.Dec.{eqb, leb}
-use Rattle.cells.specs.Cells.{dataByte, dataBytes}
+use Rattle.cells.specs.Cells.{dataByte, dataBytes, bytesClocks}
 use Rattle.cells.specs.declared.Mode.{Mode}
 use Rattle.edc.specs.Register.{edcOf}
 use Rattle.layouts.specs.declared.Layout.{Layout}
 use Rattle.layouts.specs.declared.Track.{Track}
-use Rattle.marks.specs.Marks.{covered, stands}
+use Rattle.marks.specs.Marks.{covered, lastBit, stands}
 use Rattle.marks.specs.declared.Mark.the-variants.{Identifier, Data, Control, Open}
 use Rattle.search.specs.Search.{eitherMarks, firstMark}
 use Rattle.walk.specs.Walk.{reach, reached}
@@ -19,14 +19,16 @@ use Rattle.walk.specs.declared.Block.{Block}
 use Rattle.walk.specs.declared.Block.the-variants.{Missing, Beyond, Within}
 use Rattle.walk.specs.declared.Round.{Round}
 
--- The address at cell p: its four bytes, and the register once the identifier mark and all six bytes have entered it.
-abbrev pub AddressAt : Mode → (ℕ → ℕ) → ℕ → (cylinder side sector fourth register : ℕ) → Type 0
-AddressAt mode c p cylinder side sector fourth register =
+-- The address at cell p: its four bytes, the register once the identifier mark and all six bytes have entered it, and how many clock cells
+-- of the six are doubtful.
+abbrev pub AddressAt : Mode → (ℕ → ℕ) → ℕ → (cylinder side sector fourth register clocks : ℕ) → Type 0
+AddressAt mode c p cylinder side sector fourth register clocks =
     (cylinder ≡ dataByte c p)
     × (side ≡ dataByte c (p + 16))
     × (sector ≡ dataByte c (p + 32))
     × (fourth ≡ dataByte c (p + 48))
     × (register ≡ edcOf (covered mode Identifier ++ dataBytes c p 6))
+    × (clocks ≡ bytesClocks mode c (lastBit Identifier) p 6)
 
 -- Steps 3 and 4, of an accepted identifier of this sector; a is the cell after the address EDC.
 abbrev pub blockOf : Layout → (c : ℕ → ℕ) → (n sector a : ℕ) → Round

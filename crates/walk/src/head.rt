@@ -2,12 +2,14 @@
 // a struct, so each function here is proved by hand, a straight line that leaves the work to a covered function on slice and number. Those
 // that the walk calls, `byte_at` and `mark_from`, have plain parameters: no caller of them needs a proof by hand.
 use cells::Mode;
+use cells::ReadByte;
 use search::Found;
 use search::Kinds;
 ghost use mathlib.Core.Path.{_≡_};
 ghost use Prim.Native.Nat.{_*_};
 ghost use lib.ListN.{length};
-ghost use Rattle.cells.specs.Cells.{cell, dataByte};
+ghost use Rattle.cells.specs.Cells.{cell};
+ghost use Rattle.cells.specs.Outcomes.{IsReadByte};
 ghost use Rattle.marks.specs.Outcomes.{Housed};
 ghost use Rattle.search.specs.Search.{firstMark};
 
@@ -24,11 +26,11 @@ fn head_at<'a>(image: &'a [u8], place: usize) -> Head<'a>
     Head { image, cell: place }
 }
 
-// The data byte under the head.
-fn byte_under<'a>(head: Head<'a>) -> u8
-    ensures { λ r. ⌜ r ≡ dataByte (cell (now (head .entry .image))) (head .entry .cell) ⌝ }
+// The data byte under the head, and how many of its clock cells are doubtful after the bit `before`.
+fn byte_under<'a>(head: Head<'a>, mode: Mode, before: u8) -> ReadByte
+    ensures { λ r. ⌜ IsReadByte mode before (now (head .entry .image)) (head .entry .cell) r ⌝ }
 {
-    cells::data_byte(head.image, head.cell)
+    cells::read_byte(mode, before, head.image, head.cell)
 }
 
 // The next mark of the kinds from the head on, up to and without the cell `to`.
@@ -39,11 +41,11 @@ fn next_mark<'a>(head: Head<'a>, mode: Mode, kinds: Kinds, to: usize) -> Found
     search::find(mode, kinds, head.image, head.cell, to)
 }
 
-// The data byte under a head at `place`.
-pub(crate) fn byte_at(image: &[u8], place: usize) -> u8
-    ensures { λ r. ⌜ r ≡ dataByte (cell (now (image .entry))) place ⌝ }
+// The data byte under a head at `place`, and how many of its clock cells are doubtful after the bit `before`.
+pub(crate) fn byte_at(mode: Mode, before: u8, image: &[u8], place: usize) -> ReadByte
+    ensures { λ r. ⌜ IsReadByte mode before (now (image .entry)) place r ⌝ }
 {
-    byte_under(head_at(image, place))
+    byte_under(head_at(image, place), mode, before)
 }
 
 // The next mark of the kinds from a head at `from`, up to and without the cell `to`.

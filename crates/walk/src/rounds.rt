@@ -18,13 +18,16 @@ ghost use Rattle.marks.specs.Outcomes.{Housed};
 ghost use Rattle.walk.specs.Walk.{reach};
 ghost use Rattle.walk.specs.Turns.{AddressAt, isOurs, blockOf};
 
-// The four address bytes, and the register once the identifier mark and all six bytes have entered it.
+// The four address bytes, and what the six bytes behind the identifier mark tell together.
 pub(crate) struct Address {
     pub cylinder: u8,
     pub side: u8,
     pub sector: u8,
     pub fourth: u8,
+    // the register once the mark and all six bytes have entered it
     pub register: u16,
+    // how many clock cells of the six bytes are doubtful; it stands in no record
+    pub clocks: u32,
 }
 
 // How many cells after the address EDC a block's mark may begin.
@@ -37,27 +40,37 @@ fn reach_of(mode: Mode) -> usize
     }
 }
 
-// The address at `place`, the cell after an identifier mark.
+// The address at `place`, the cell after an identifier mark. Each byte is read after the last bit of the one before it, the first after the
+// mark's.
 pub(crate) fn address_at(mode: Mode, image: &[u8], place: usize) -> Address
     requires { ⌜ place ≤ 4294967296 ⌝ }
-    ensures { λ r. ⌜ AddressAt mode (cell (now (image .entry))) place (r .cylinder) (r .side) (r .sector) (r .fourth) (r .register) ⌝ }
+    ensures { λ r. ⌜ AddressAt mode (cell (now (image .entry))) place (r .cylinder) (r .side) (r .sector) (r .fourth) (r .register) (r .clocks) ⌝ }
 {
-    let cylinder = byte_at(image, place);
-    let side = byte_at(image, place + 16);
-    let sector = byte_at(image, place + 32);
-    let fourth = byte_at(image, place + 48);
+    let cylinder = byte_at(mode, marks::last_bit(Mark::Identifier), image, place);
+    let side = byte_at(mode, cylinder.byte % 2, image, place + 16);
+    let sector = byte_at(mode, side.byte % 2, image, place + 32);
+    let fourth = byte_at(mode, sector.byte % 2, image, place + 48);
+    let upper = byte_at(mode, fourth.byte % 2, image, place + 64);
+    let lower = byte_at(mode, upper.byte % 2, image, place + 80);
+    let clocks = cylinder.clocks
+        + side.clocks
+        + sector.clocks
+        + fourth.clocks
+        + upper.clocks
+        + lower.clocks;
     let start = marks::register_after(mode, Mark::Identifier);
-    let one = edc::byte_entered(start, cylinder);
-    let two = edc::byte_entered(one, side);
-    let three = edc::byte_entered(two, sector);
-    let four = edc::byte_entered(three, fourth);
-    let five = edc::byte_entered(four, byte_at(image, place + 64));
+    let one = edc::byte_entered(start, cylinder.byte);
+    let two = edc::byte_entered(one, side.byte);
+    let three = edc::byte_entered(two, sector.byte);
+    let four = edc::byte_entered(three, fourth.byte);
+    let five = edc::byte_entered(four, upper.byte);
     Address {
-        cylinder,
-        side,
-        sector,
-        fourth,
-        register: edc::byte_entered(five, byte_at(image, place + 80)),
+        cylinder: cylinder.byte,
+        side: side.byte,
+        sector: sector.byte,
+        fourth: fourth.byte,
+        register: edc::byte_entered(five, lower.byte),
+        clocks,
     }
 }
 

@@ -59,7 +59,8 @@ impl Call {
     /// Random areas with random records.
     pub fn new(rng: &mut Rng, track: Track) -> Call {
         let mut pass = || {
-            let records = [0; MOST_SECTORS].map(|_| Record { answer: answer(rng), place: place(rng) });
+            let records =
+                [0; MOST_SECTORS].map(|_| Record { answer: answer(rng), place: place(rng), clocks: clocks(rng) });
             Pass { area: rng.bytes(track.layout().area_bytes()), records }
         };
         let (first, second) = (pass(), pass());
@@ -93,6 +94,14 @@ fn place(rng: &mut Rng) -> u32 {
         0 => NO_PLACE,
         1 => rng.bits() as u32,
         _ => rng.below(8 * LONGEST) as u32,
+    }
+}
+
+/// Most often what a block can have, whatever the answer beside it.
+fn clocks(rng: &mut Rng) -> u32 {
+    match rng.below(6) {
+        0 => rng.bits() as u32,
+        _ => rng.below(8 * (1_024 + 2) + 1) as u32,
     }
 }
 

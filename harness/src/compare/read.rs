@@ -53,8 +53,9 @@ pub(super) fn garbage(rng: &mut Rng, length: usize) -> Vec<u8> {
 }
 
 /// A record of any numbers but 0.
-pub(super) fn any_record(rng: &mut Rng) -> Record {
-    Record { answer: rng.bits() as u32 | 1, place: rng.bits() as u32 | 1 }
+pub fn any_record(rng: &mut Rng) -> Record {
+    let mut any = || rng.bits() as u32 | 1;
+    Record { answer: any(), place: any(), clocks: any() }
 }
 
 /// What comes back from a reader.
@@ -75,7 +76,8 @@ impl Outcome {
     pub fn of_image(track: Track, image: &[u8]) -> Outcome {
         let Track { layout, cylinder, side } = track;
         // what is lent holds something else before
-        let reading = Reading { records: [Record { answer: 99, place: 99 }; MOST_SECTORS], counts: [99; 2] };
+        let reading =
+            Reading { records: [Record { answer: 99, place: 99, clocks: 99 }; MOST_SECTORS], counts: [99; 2] };
         let mut outcome = Outcome { number: 99, reading, area: vec![99; track.layout().area_bytes()] };
         outcome.number = station::read(layout, cylinder, side, image, &mut outcome.area, &mut outcome.reading);
         assert_eq!(outcome.number, 0, "refusal of the reader: {track:?}");
@@ -112,8 +114,12 @@ impl Outcome {
     pub fn count(&self, tally: &mut Tally) {
         tally.input();
         tally.met(Row::Read, self.number);
-        let answers = self.reading.records.iter().map(|record| record.answer);
-        answers.filter(|&answer| answer > 0).for_each(|answer| tally.met(Row::Answer, answer));
+        for record in self.reading.records.iter().filter(|record| record.answer > 0) {
+            tally.met(Row::Answer, record.answer);
+            if record.clocks > 0 {
+                tally.met(Row::Doubtful, record.answer);
+            }
+        }
         let [bad, foreign] = self.reading.counts.map(u64::from);
         tally.met_times(Row::Identifier, 0, bad);
         tally.met_times(Row::Identifier, 1, foreign);
@@ -123,8 +129,8 @@ impl Outcome {
 impl fmt::Debug for Outcome {
     fn fmt(&self, f: &mut fmt::Formatter) -> fmt::Result {
         let Reading { records, counts } = self.reading;
-        let records = records.map(|Record { answer, place }| (answer, place));
-        write!(f, "{}, answers and places {records:?}, counts {counts:?}", self.number)
+        let records = records.map(|Record { answer, place, clocks }| (answer, place, clocks));
+        write!(f, "{}, answers, places and clocks {records:?}, counts {counts:?}", self.number)
     }
 }
 

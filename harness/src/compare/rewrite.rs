@@ -1,10 +1,12 @@
 //! Rewrites, and how the two sides are held against each other on one of them.
 use super::read::Outcome;
 use super::{among_others, difference, read_back};
+use crate::reference::plain_clocks::of_block;
+use crate::reference::records::{at, doubtful};
 use crate::reference::rewrite::{self, Plan, Request};
 use crate::reference::stores::stores;
 use crate::rng::Rng;
-use crate::station::{self, Record};
+use crate::station;
 use crate::tally::met::Row;
 use crate::tally::Tally;
 use crate::tracks::{letters, Track};
@@ -109,18 +111,19 @@ impl Call {
         before
     }
 
-    /// What has to be read after some stores of `all`, if before the first of them `before` was: every other sector as
-    /// it was, with its place, and the named one at its old place too.
-    pub fn expected(&self, before: &Outcome, made: usize, all: usize) -> Outcome {
+    /// What has to be read after some stores of `all`, if before the first of them `before` was, and they left this image:
+    /// every other sector as it was, with its place and its doubtful clocks, and the named one at its old place too. At the
+    /// end none of its clocks is doubtful; on the way they are what they are, since the new mark does not stand there yet.
+    pub fn expected(&self, before: &Outcome, made: usize, all: usize, image: &[u8]) -> Outcome {
         let mut after = before.clone();
         let (index, size) = (self.sector as usize - 1, self.contents.len());
-        let (Record { place, .. }, slot) = (before.reading.records[index], &mut after.area[index * size..][..size]);
+        let (place, slot) = (before.reading.records[index].place as usize, &mut after.area[index * size..][..size]);
         if made == all {
             let (answer, bytes) = read_back(self.track.cylinder, self.mark, &self.contents);
-            after.reading.records[index] = Record { answer, place };
+            after.reading.records[index] = at(answer, place);
             slot.copy_from_slice(&bytes);
         } else if made > 0 {
-            after.reading.records[index] = Record { answer: 25, place };
+            after.reading.records[index] = doubtful(25, place, of_block(self.track.layout(), image, place));
             slot.fill(0);
         }
         after

@@ -1,5 +1,5 @@
-//! What the program prints (01, "Small facts"): layout, cylinder and side, one byte each, then the image. It prints no
-//! place, so the records are told here beside it.
+//! What the program prints (01, "Small facts"): layout, cylinder and side, one byte each, then the image. It prints
+//! neither places nor doubtful clocks, so the records are told here beside it.
 use super::layouts::LAYOUTS;
 use super::read::read;
 use crate::station::{Reading, Record};
@@ -22,9 +22,10 @@ pub fn dump_by(reader: Reader, input: &[u8]) -> String {
     })
 }
 
-/// The records of the same input: a line `sector answer place` for each sector.
+/// The records of the same input: a line `sector answer place clocks` for each sector.
 pub fn records_by(reader: Reader, input: &[u8]) -> String {
-    told(reader, input, |track| track.sectors(|Record { answer, place }| format!("{answer} {place}")))
+    let said = |Record { answer, place, clocks }| format!("{answer} {place} {clocks}");
+    told(reader, input, |track| track.sectors(said))
 }
 
 /// What a reader tells of a track.

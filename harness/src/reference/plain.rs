@@ -3,7 +3,8 @@ use super::annex::edc;
 use super::coding::Mode;
 use super::layouts::{of_track, Layout};
 use super::marks::{Mark, Marks, FM, MFM};
-use super::records::{at, nowhere};
+use super::plain_clocks::bytes;
+use super::records::{at, doubtful, nowhere};
 use crate::station::{Reading, Record};
 
 /// Reads a track, as `read::read` does.
@@ -79,7 +80,7 @@ fn walk<const MARK: usize>(
         // 1
         let mark = (cell..cells).find(|&place| stands(image, &marks.identifier, place))?;
         cell = mark + 8 * MARK;
-        let six = (cells - cell >= 96).then(|| bytes(image, cell, 6))?;
+        let (six, _) = (cells - cell >= 96).then(|| bytes(layout.mode, image, cell, last_bit(&marks.identifier), 6))?;
         // 2
         if edc(&[marks.identifier.bytes, &six].concat()) != 0 {
             met.bad += 1;
@@ -106,7 +107,10 @@ fn walk<const MARK: usize>(
             met.accepted.push(Accepted::refused(sector, at(24, place)));
             return None;
         }
-        let block = bytes(image, place + 8 * MARK, layout.size + 2);
+        // request 06: "the sum for its block's N + 2 bytes", and "the bit before the first byte is the mark's last"
+        let before = last_bit(kinds[kind]);
+        let (block, clocks) = bytes(layout.mode, image, place + 8 * MARK, before, layout.size + 2);
+        let at = |answer, place| doubtful(answer, place, clocks);
         let is_right = edc(&[kinds[kind].bytes, &block].concat()) == 0;
         let (is_control, first, is_cylinder_0) = (kind == 2, block[0], own[0] == 0);
         met.accepted.push(match kind {
@@ -136,8 +140,7 @@ pub(super) fn stands<const MARK: usize>(image: &[u8], mark: &Mark<MARK>, place: 
     is_inside && (0..8 * MARK).all(|cell| is_one(image, place + cell) == is_one(&mark.image, cell))
 }
 
-/// The bytes that the cells from one on hold, whatever their clock cells.
-fn bytes(image: &[u8], from: usize, count: usize) -> Vec<u8> {
-    let byte = |at| (0..8).fold(0, |byte, bit| byte << 1 | u8::from(is_one(image, from + 16 * at + 2 * bit + 1)));
-    (0..count).map(byte).collect()
+/// The last bit of what a mark stands for.
+fn last_bit<const MARK: usize>(mark: &Mark<MARK>) -> bool {
+    mark.bytes.last().expect("a mark's byte") % 2 == 1
 }

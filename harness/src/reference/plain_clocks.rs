@@ -1,6 +1,7 @@
 //! Bytes read from cells with their doubtful clocks, word for word after 02, request 06: one clock cell after the other.
 //! Slow, to check the fast version and the library by.
 use super::coding::Mode;
+use super::layouts::Layout;
 use super::plain::is_one;
 
 /// "Reading one byte from cells must also tell how many of its eight clock cells differ from the mode's rule, given the
@@ -38,4 +39,15 @@ pub fn bytes(mode: Mode, image: &[u8], from: usize, before: bool, count: usize) 
         sum += doubtful;
     }
     (bytes, sum)
+}
+
+/// "The sum for its block's N + 2 bytes", of a block that is whole, by the cell at which its mark begins. The last of a
+/// mark's 16 or 64 cells is a data cell, its last bit.
+pub fn of_block(layout: &Layout, image: &[u8], mark: usize) -> u32 {
+    let from = mark
+        + match layout.mode {
+            Mode::Fm => 16,
+            Mode::Mfm => 64,
+        };
+    bytes(layout.mode, image, from, is_one(image, from - 1), layout.size + 2).1
 }

@@ -1,10 +1,12 @@
-//! The reader (01, "How a track is read", "Refused calls"; 02, request 04): one walk over the image, and each block goes
-//! straight into its slot.
+//! The reader (01, "How a track is read", "Refused calls"; 02, requests 04 and 06): one walk over the image, and each
+//! block goes straight into its slot, its doubtful clocks counted in the same pass.
+use super::clocks::decode;
 use super::coding::Mode;
 use super::edc::{continued, edc};
+use super::layouts::Layout;
 use super::marks::{self, LETTER_D, LETTER_F};
-use super::records::{at, has_bytes, nowhere};
-use super::walk::{decode, stored, walk, Found, Kind, Meets, Track, BYTE};
+use super::records::{at, doubtful, has_bytes, nowhere};
+use super::walk::{walk, Found, Kind, Meets, Track, BYTE};
 use crate::station::{Reading, Record};
 
 /// Reads a track. Answers 0, or the number of the refusal. Nothing is left of what area and reading held: slots and
@@ -28,8 +30,8 @@ pub fn read(layout: u32, cylinder: u32, side: u32, image: &[u8], area: &mut [u8]
         Mode::Mfm => (marks::MFM.data.bytes, marks::MFM.control.bytes),
     };
     let (data, control) = (edc(data), edc(control));
-    let cylinder = track.cylinder;
-    walk(track, &mut Filling { image, cylinder, size: layout.size, data, control, area, records, counts });
+    let (cylinder, &Layout { mode, size, .. }) = (track.cylinder, layout);
+    walk(track, &mut Filling { image, cylinder, mode, size, data, control, area, records, counts });
     let slots = area.chunks_exact_mut(layout.size).zip(records);
     slots.filter(|(_, record)| !has_bytes(record.answer)).for_each(|(slot, _)| slot.fill(0));
     0
@@ -48,6 +50,7 @@ fn accepted<'a>(layout: u32, cylinder: u32, side: u32, image: &'a [u8], area: &[
 struct Filling<'a> {
     image: &'a [u8],
     cylinder: u8,
+    mode: Mode,
     size: usize,
     /// What the marks leave in the register, once for all blocks.
     data: u16,
@@ -70,8 +73,7 @@ impl Meets for Filling<'_> {
         let found = match found {
             Found::Nothing => nowhere(23),
             Found::Cut { mark } => at(24, mark),
-            Found::Block { kind: Kind::Open, mark, .. } => at(25, mark),
-            Found::Block { kind, mark, bytes } => at(self.block(sector, bytes, kind), mark),
+            Found::Block { kind, mark, bytes } => self.block(sector, kind, mark, bytes),
         };
         let record = &mut self.records[sector];
         *record = if record.answer == 21 { found } else { nowhere(22) };
@@ -79,12 +81,23 @@ impl Meets for Filling<'_> {
 }
 
 impl Filling<'_> {
-    /// The answer for a whole block after a data or control mark, as if no other had its number.
-    fn block(&mut self, sector: usize, from: usize, kind: Kind) -> u32 {
-        let register = if kind == Kind::Data { self.data } else { self.control };
+    /// The record of a whole block, as if no other had its number. A slot that its answer gives no bytes is cleared later.
+    fn block(&mut self, sector: usize, kind: Kind, mark: usize, from: usize) -> Record {
+        let (slot, mut edc) = (&mut self.area[sector * self.size..][..self.size], [0; 2]);
+        let of_data = decode(self.mode, self.image, from, slot);
+        let of_edc = decode(self.mode, self.image, from + BYTE * self.size, &mut edc);
+        doubtful(self.answer(sector, kind, u16::from_be_bytes(edc)), mark, of_data + of_edc)
+    }
+
+    /// The answer of a block whose bytes are in their slot, and this EDC behind them.
+    fn answer(&mut self, sector: usize, kind: Kind, stored: u16) -> u32 {
+        let register = match kind {
+            Kind::Data => self.data,
+            Kind::Control => self.control,
+            Kind::Open => return 25,
+        };
         let slot = &mut self.area[sector * self.size..][..self.size];
-        decode(self.image, from, slot);
-        let is_right = continued(register, slot) == stored(self.image, from + BYTE * self.size);
+        let is_right = continued(register, slot) == stored;
         match (kind, self.cylinder, slot[0]) {
             // the sector contains a defective area, and its EDC may be right or wrong: nothing but the letter is handed on
             (Kind::Control, 1.., LETTER_F) => {

@@ -186,13 +186,13 @@ impl<'a, M: Meets, const MARK: usize> Walk<'a, M, MARK> {
 }
 
 /// The EDC that stands at a cell.
-pub fn stored(image: &[u8], cell: usize) -> u16 {
+fn stored(image: &[u8], cell: usize) -> u16 {
     u16::from_be_bytes([data_byte(image, cell), data_byte(image, cell + BYTE)])
 }
 
 /// The data bytes from a cell on. An EDC follows them, so the image goes on for at least one byte.
 #[inline(always)]
-pub fn decode(image: &[u8], cell: usize, bytes: &mut [u8]) {
+fn decode(image: &[u8], cell: usize, bytes: &mut [u8]) {
     let (from, shift) = (cell / 8, cell % 8);
     let length = 2 * bytes.len();
     let octets = image[from..from + length].chunks_exact(2);

@@ -1,5 +1,5 @@
 //! The outcomes that comparisons met, and those that a run has to meet (01, "How a track is read", "Refused calls"; 02,
-//! requests 03, 04 and 05).
+//! requests 03 to 06).
 use super::grouped;
 use std::collections::BTreeSet;
 use std::fmt::{self, Display};
@@ -12,6 +12,8 @@ pub enum Row {
     Read,
     /// Sectors of an accepted read.
     Answer,
+    /// Those among them with doubtful clocks, by their answer.
+    Doubtful,
     /// Identifiers that are counted: 0 a bad one, 1 a foreign one.
     Identifier,
     /// Refused picks.
@@ -34,11 +36,15 @@ pub enum Row {
 /// Every answer of a reader.
 pub const ANSWERS: [u8; 10] = [1, 2, 3, 21, 22, 23, 24, 25, 26, 27];
 
+/// Those with which there is a whole block, whose clocks are counted.
+pub const OF_WHOLE: [u8; 6] = [1, 2, 3, 25, 26, 27];
+
 /// Every row with its name, and the outcomes that it has to meet. No call gives 8: every layout adds up to its image.
-const ROWS: [(Row, &str, &[u8]); 15] = [
+const ROWS: [(Row, &str, &[u8]); 16] = [
     (Row::Format, "format", &[0, 1, 2, 3, 4, 5, 6, 7]),
     (Row::Read, "read", &[0, 1, 2, 3, 4, 5]),
     (Row::Answer, "answer", &ANSWERS),
+    (Row::Doubtful, "doubtful clocks with answer", &OF_WHOLE),
     (Row::Identifier, "identifier", &[0, 1]),
     (Row::Pick, "pick", &[4, 5, 9]),
     (Row::First, "first pass", &[1, 2, 3]),

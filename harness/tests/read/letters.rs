@@ -1,6 +1,7 @@
 //! The first byte behind a mark (02, request 04; 004, 7.4.2.4.3): each in each block, and what wear makes of a record with F.
 use harness::compare::read::{agrees, compare, Call, Outcome};
-use harness::reference::records::{at, nowhere};
+use harness::reference::coding::Mode;
+use harness::reference::records::{at, doubtful, nowhere};
 use harness::rng::Rng;
 use harness::station::{Reading, Record};
 use harness::tally::met::Row;
@@ -136,7 +137,7 @@ fn h1_a_record_with_f_cut_at_every_byte() {
     tally.report();
 }
 
-/// Each cell of the record turned over. A clock cell does not matter. In the first byte a data cell makes another letter of
+/// Each cell of the record turned over. A clock cell is counted and does not matter. In the first byte a data cell makes another letter of
 /// F, D among them, and then the EDC counts; behind it the EDC counts on cylinder 0 alone.
 #[test]
 fn each_cell_of_a_record_with_f() {
@@ -153,8 +154,15 @@ fn each_cell_of_a_record_with_f() {
                 (true, false) if whole == 27 => 26,
                 _ => whole,
             };
+            // the clocks beside a data cell go by it in MFM, where the bit on their other side is ZERO
+            let is_zero = |cell: usize| u32::from(cell < end && !sketch.cells[cell]);
+            let clocks = match (is_data, track.mode()) {
+                (false, _) => 1,
+                (true, Mode::Fm) => 0,
+                (true, Mode::Mfm) => is_zero(cell - 2) + is_zero(cell + 2),
+            };
             let worn = sketch.clone().turned(end - cell).gap(4);
-            reads_as(&mut tally, &mut rng, &worn, at(answer, mark));
+            reads_as(&mut tally, &mut rng, &worn, doubtful(answer, mark, clocks));
         }
     }
     tally.has_met(Row::Answer, &[3, 26, 27]);

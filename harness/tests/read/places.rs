@@ -1,9 +1,10 @@
-//! Where on the track a sector's mark begins (02, request 01).
+//! Where on the track a sector's mark begins (02, request 01), and what the clocks behind it sum to (02, request 06).
 use harness::compare::read::{compare, Call, Outcome};
+use harness::reference::plain_clocks::of_block;
 use harness::reference::records::{at, nowhere};
 use harness::rng::Rng;
 use harness::station::{Record, NO_PLACE};
-use harness::tally::met::{Row, ANSWERS};
+use harness::tally::met::{Row, ANSWERS, OF_WHOLE};
 use harness::tally::Tally;
 use harness::tracks::damage::{shifted, turn};
 use harness::tracks::letters::{lay, lettered};
@@ -33,15 +34,19 @@ fn marks_of(answer: u32) -> &'static [Kind] {
 }
 
 /// Looks at the cells themselves: one of the marks stands at each place that is given, and a place is given just where the
-/// answer says so. Past the layout's count all is zero.
+/// answer says so; behind it as many clocks are doubtful as are given, and some are given only where the answer says a
+/// whole block. Past the layout's count all is zero.
 fn stand(call: &Call, outcome: &Outcome) {
     let (cells, mode) = (cells_of(&call.image), call.track.mode());
     let (sectors, past) = outcome.reading.records.split_at(call.track.layout().sectors);
-    for (sector, &Record { answer, place }) in (1..).zip(sectors) {
+    for (sector, &Record { answer, place, clocks }) in (1..).zip(sectors) {
         let (marks, from) = (marks_of(answer), cells.get(place as usize..));
         let stands = |mark: &Kind| from.map_or(false, |cells| cells.starts_with(&cells_of(mark.image(mode))));
         let is_right = if marks.is_empty() { place == NO_PLACE } else { marks.iter().any(stands) };
         assert!(is_right, "sector {sector} answers {answer} at cell {place}: {call:?}");
+        let is_whole = OF_WHOLE.map(u32::from).contains(&answer);
+        let sum = if is_whole { of_block(call.track.layout(), &call.image, place as usize) } else { 0 };
+        assert_eq!(clocks, sum, "sector {sector} answers {answer} at cell {place}: {call:?}");
     }
     assert!(past.iter().all(|record| *record == Record::default()), "records past the last sector's: {outcome:?}");
 }
@@ -81,7 +86,7 @@ fn with_every_other(rng: &mut Rng, track: Track, by: usize) -> (Vec<u8>, [Record
     // the mark of 3 is spoilt, that of 4 is open, the EDC of 5 is wrong, 6 is a control record with F, and the capture ends
     // in the last block
     turn(&mut image, 8 * mark(3) + 1);
-    image[mark(4)..][..length].copy_from_slice(Open.image(mode));
+    lay(&mut image, track, 4, Open, &contents(track, 4), true);
     lay(&mut image, track, 5, Data, &contents(track, 5), false);
     lay(&mut image, track, 6, Control, &lettered(track, 6, b'F'), true);
     image.truncate(mark(last) + length + 9);
@@ -129,5 +134,6 @@ fn marks_stand_at_all_places() {
     }
     assert!(offsets.iter().all(|&met| met > 0), "places of such sectors by the cell of a byte: {offsets:?}");
     tally.has_met(Row::Answer, &ANSWERS);
+    tally.has_met(Row::Doubtful, &OF_WHOLE);
     tally.report();
 }

@@ -5,19 +5,20 @@ use harness::compare::difference;
 use harness::compare::read::Outcome;
 use harness::compare::rewrite::Call;
 use harness::rng::Rng;
+use harness::station::Reading;
 use harness::tally::Tally;
 use harness::tracks::damage::{shifted, turn};
 use harness::tracks::sketch::{Control, Identifier, Sketch};
 use harness::tracks::{self, Track};
 
 /// Cuts the rewrite after every number of stores: nothing but the named sector reads otherwise, and that one as the
-/// papers want it, at its old place.
+/// papers want it, at its old place. The doubtful clocks of every other sector stay.
 pub fn every_cut(tally: &mut Tally, rng: &mut Rng, call: &Call) {
     let plan = call.plan(tally, rng);
     let all = plan[3] as usize;
     let before = call.before(plan);
     call.rewritten(tally, rng, plan, |made, image| {
-        let expected = call.expected(&before, made, all);
+        let expected = call.expected(&before, made, all, image);
         assert_eq!(Outcome::of_image(call.track, image), expected, "read after {made} of {all} stores: {call:?}");
     });
     tally.inputs(all + 1);
@@ -63,8 +64,9 @@ fn worn_tracks() {
         let image = worn(&mut rng, track);
         let by = 8 * (1 + rng.below(9));
         let image = shifted(&mut rng, &image, by);
-        let counts = Outcome::of_image(track, &image).reading.counts;
+        let Reading { records, counts } = Outcome::of_image(track, &image).reading;
         assert!(counts[0] > 0 && counts[1] > 0, "bad and foreign identifiers: {counts:?}, {track:?}");
+        assert!(records[4..].iter().any(|record| record.clocks > 0), "doubtful clocks behind sector 4: {track:?}");
         let call = Call::new(&mut rng, track, 3, &image);
         every_cut(&mut tally, &mut rng, &call);
     }

@@ -159,7 +159,7 @@ fn d4_steps_that_write_another_letter() {
             let after = Outcome::of_image(track, sides.image());
             assert_eq!(after.reading.records[1], at(27, 8 * track.places(2).1), "{stepped:?}");
             let all = plan[3] as usize;
-            assert!(after == stepped.expected(&before, all, all), "{after:?}: {stepped:?}");
+            assert!(after == stepped.expected(&before, all, all, sides.image()), "{after:?}: {stepped:?}");
             let again = Call { image: sides.image().to_vec(), ..asked };
             rewrite(&mut tally, &mut rng, &again);
             tally.input();

@@ -36,7 +36,7 @@ pub fn rewrite(tally: &mut Tally, rng: &mut Rng, call: &Call) -> Vec<u8> {
     let (before, cuts) = (call.before(plan), some_cuts(rng, all));
     call.rewritten(tally, rng, plan, |made, image| {
         if cuts.contains(&made) {
-            let expected = call.expected(&before, made, all);
+            let expected = call.expected(&before, made, all, image);
             assert_eq!(Outcome::of_image(call.track, image), expected, "read after {made} of {all} stores: {call:?}");
         }
     })

@@ -1,107 +1,69 @@
--- `byte_from` meets its contract: the three bytes joined have the sixteen cells.
+-- `byte_from` meets its contract: the bit before comes before the first of the sixteen cells, and they follow it.
 use denote.Ref.{now}
-use mathlib.Core.Path.{refl, _∙_}
-use Prim.Native.Nat.{_+_}
+use mathlib.Core.Path.{ap₂, _∙_}
+use Prim.Native.Nat.{ℕ, _+_, _*_, _/_}
 use native.Mathlib.Omega.{arith}
+use lib.Bits.{and-le-r}
 use borrow.Author.Needs.{needs}
-use Rattle.cells.proofs.Joined.{data-read}
+use Rattle.cells.specs.Cells.{cell}
+use Rattle.cells.proofs.Clocks.{sixteen-clocks}
+use Rattle.cells.proofs.Halves.{counted, ones-right}
+use Rattle.cells.proofs.Joined.{cell-lt, sixteen-data}
 use Rattle.cells.proofs.byte_from.Statement.{statement}
 use Rattle.cells.proofs.byte_from.Tie as tie
 
-add-if1 : tie.Need-add-if1
-add-if1 c = search needs
+sixteen-from-requires : tie.Need-sixteen-from-requires
+sixteen-from-requires c κs = search needs
 
-shared-slice-read-wide-window : tie.Need-shared-slice-read-wide-window
-shared-slice-read-wide-window c = search needs
+bit-before-requires : tie.Need-bit-before-requires
+bit-before-requires c κs = search needs
 
-add-wide-window : tie.Need-add-wide-window
-add-wide-window c = search needs
+add-right-clocks : tie.Need-add-right-clocks
+add-right-clocks c = search needs
 
-shared-slice-read-wide-window-2 : tie.Need-shared-slice-read-wide-window-2
-shared-slice-read-wide-window-2 c = search needs
-
-add-wide-window-2 : tie.Need-add-wide-window-2
-add-wide-window-2 c = search needs
-
-shared-slice-read-wide-window-3 : tie.Need-shared-slice-read-wide-window-3
-shared-slice-read-wide-window-3 c = search needs
-
-add-wide-window-3 : tie.Need-add-wide-window-3
-add-wide-window-3 c = search needs
-
-shared-slice-read-wide-window-4 : tie.Need-shared-slice-read-wide-window-4
-shared-slice-read-wide-window-4 c = search needs
-
-wide-window-requires : tie.Need-wide-window-requires
-wide-window-requires c κs = search needs
+right-clocks-requires : tie.Need-right-clocks-requires
+right-clocks-requires c κs = search needs
 
 together-requires : tie.Need-together-requires
 together-requires c κs = search needs
 
+cast-t12 : tie.Need-cast-t12
+cast-t12 c = omega (arith, and-le-r (c .before .right-clocks .result) 0xAAAA)
+
+sub-t14 : tie.Need-sub-t14
+sub-t14 c =
+    let sixteen = c .before .before .before .sixteen-from in
+    let bit = c .before .before .bit-before in
+    let a = c .before .before .before .before .before .args in
+    let k = rw (← c .before .right-clocks .ensures) at
+    (counted (a .mode) (bit .result + sixteen .result / 2) (sixteen .result) (search needs) (search needs)) in
+    ones-right k .0
+
 returns : tie.Need-returns
 returns c =
-    let l = c .before .before .before .before .before .before .before in
-    let a = l .before .args in
-    c .together .ensures
-    ∙ data-read (now (a .image)) (a .at) (a .shift) _ _ _ (c .before .wide-window .result) (l .before .pre .0)
-    (l .shared-slice-known .given (a .at) .fits) (l .shared-slice-known .given (a .at + 1) .fits) (l .shared-slice-known .given (a .at + 2) .fits)
-    refl refl refl (c .before .wide-window .ensures)
-
-byte-or-zero-requires : tie.Need-byte-or-zero-requires
-byte-or-zero-requires c κs = search needs
-
-add-byte-or-zero : tie.Need-add-byte-or-zero
-add-byte-or-zero c = search needs
-
-byte-or-zero-requires-2 : tie.Need-byte-or-zero-requires-2
-byte-or-zero-requires-2 c κs = search needs
-
-add-byte-or-zero-2 : tie.Need-add-byte-or-zero-2
-add-byte-or-zero-2 c = search needs
-
-byte-or-zero-requires-3 : tie.Need-byte-or-zero-requires-3
-byte-or-zero-requires-3 c κs = search needs
-
-wide-window-requires-2 : tie.Need-wide-window-requires-2
-wide-window-requires-2 c κs = search needs
-
-together-requires-2 : tie.Need-together-requires-2
-together-requires-2 c κs = search needs
-
-returns-2 : tie.Need-returns-2
-returns-2 c =
-    let third = c .before .before in
-    let second = third .before in
-    let first = second .before in
-    let s = first .before .before .before in
-    let a = s .args in
-    c .together2 .ensures
-    ∙ data-read (now (a .image)) (a .at) (a .shift) (first .byte-or-zero .result) (second .byte-or-zero2 .result) (third .byte-or-zero3 .result)
-    (c .before .wide-window2 .result) (s .pre .0)
-    (omega arith) (omega arith) (omega arith)
-    (first .byte-or-zero .ensures) (second .byte-or-zero2 .ensures) (third .byte-or-zero3 .ensures)
-    (c .before .wide-window2 .ensures)
+    let sixteen = c .before .before .before .sixteen-from in
+    let bit = c .before .before .bit-before in
+    let a = c .before .before .before .before .before .args in
+    let k = rw (← c .before .right-clocks .ensures) at
+    (counted (a .mode) (bit .result + sixteen .result / 2) (sixteen .result) (search needs) (search needs)) in
+    let s = now (a .image) in
+    let p = 8 * a .at + a .shift in (
+      ap₂ (λ (x n : ℕ). record { byte = x; clocks = n })
+          (c .together .ensures ∙ sixteen-data (cell s) (cell-lt s) p (sixteen .result) (sixteen .ensures))
+          (ones-right k .1
+          ∙ sixteen-clocks (a .mode) (cell s) (cell-lt s) p (sixteen .result) (a .before) (bit .result) (sixteen .ensures) (bit .ensures .0) (bit .ensures .1)),
+      omega arith,
+    )
 
 pub byte-from-spec : {M : Type 1} → statement M
 byte-from-spec =
     tie.close
     (tie.spec
-    add-if1
-    shared-slice-read-wide-window
-    add-wide-window
-    shared-slice-read-wide-window-2
-    add-wide-window-2
-    shared-slice-read-wide-window-3
-    add-wide-window-3
-    shared-slice-read-wide-window-4
-    wide-window-requires
+    sixteen-from-requires
+    bit-before-requires
+    add-right-clocks
+    right-clocks-requires
     together-requires
-    returns
-    byte-or-zero-requires
-    add-byte-or-zero
-    byte-or-zero-requires-2
-    add-byte-or-zero-2
-    byte-or-zero-requires-3
-    wide-window-requires-2
-    together-requires-2
-    returns-2)
+    cast-t12
+    sub-t14
+    returns)

@@ -9,7 +9,8 @@ use lib.Bits.{bitAnd, bitOr, bitXor}
 use lib.Dec.{eqb, eqb→eq}
 use Rattle.cells.proofs.Table.{all-at}
 use Rattle.coding.proofs.Coding.{low-lt, high-one}
-use Rattle.coding.specs.Coding.{clock, four, high, low}
+use Rattle.cells.specs.Cells.{clock}
+use Rattle.coding.specs.Coding.{four, high, low}
 use Rattle.cells.specs.declared.Mode.{Mode}
 use Rattle.cells.specs.declared.Mode.the-variants.{Fm, Mfm}
 use Rattle.coding.proofs.sixteen.Statement.{statement}

@@ -1,5 +1,5 @@
 -- The round trip through the calls: what format accepts reads back, and read does not refuse the image that format leaves.
-use mathlib.Core.Path.{_≡_, refl, sym, ap, ap₂, subst, _∙_}
+use mathlib.Core.Path.{_≡_, refl, sym, ap, subst, _∙_}
 use mathlib.Core.Bool.{Bool, false}
 use mathlib.Core.List.{List, [], _∷_, _++_}
 use mathlib.Core.Logic.{⊎-elim}
@@ -12,6 +12,7 @@ use lib.ListN.{length, getD, drop}
 use lib.Seq.{getD-take, getD-drop}
 use Rattle.cells.specs.Cells.{cell, Bytes}
 use Rattle.format.specs.Order.{Numbered, formatted}
+use Rattle.format.specs.Outcomes.{Formats}
 use Rattle.format.specs.Places.{blockPlace}
 use Rattle.format.specs.Refusals.{some, formTests, contentTests, formatTests}
 use Rattle.calls.specs.declared.Checked.the-variants.{Passed}
@@ -26,10 +27,11 @@ use Rattle.layouts.specs.Tracks.{trackOf}
 use Rattle.layouts.specs.declared.Layout.{Layout}
 use Rattle.layouts.specs.declared.Track.{Track}
 use Rattle.layouts.proofs.Layouts.{every-layout, adds}
-use Rattle.read.specs.Records.{Sector, itsAnswer, itsPlace, bySector, areaOf}
+use Rattle.read.specs.Records.{Sector, itsAnswer, itsPlace, itsClocks, bySector, areaOf}
 use Rattle.answers.specs.Answers.{answerNumber, unanswered, recordAt}
-use Rattle.read.specs.Outcomes.{reading, readTests, readAnswer, readArea}
+use Rattle.read.specs.Outcomes.{reading, readTests, readAnswer, readArea, Reads}
 use Rattle.read.specs.declared.Reading.{Reading}
+use Rattle.answers.proofs.Fields.{same-record}
 use Rattle.answers.specs.declared.Answered.{Answered}
 use Rattle.answers.specs.declared.Record.{Record}
 use Rattle.read.proofs.Passing.{modest}
@@ -95,7 +97,7 @@ module _ (t : Track) (image : List ℕ) (s : ℕ) (low : 1 ≤ s) (high : s ≤ 
 
   pub record-read : t .layout .sectors ≤ mostSectors → recordAt (reading t image .records) s ≡ sectorIn t image s .known
   record-read few =
-      ap₂ (λ (a : Answered) (p : ℕ). record { answer = a .answer; place = p }) (said-read itsAnswer unanswered few) (said-read itsPlace 0 few)
+      same-record (ap (λ (a : Answered). a .answer) (said-read itsAnswer unanswered few)) (said-read itsPlace 0 few) (said-read itsClocks 0 few)
 
   -- and its slot in the area.
   pub slot-read : 1 ≤ t .layout .size → (area : List ℕ) → area ≡ areaOf t (cell image) (8 * length image) (met t image)
@@ -172,18 +174,36 @@ module _ (layout cylinder side : ℕ) (contents marks : List ℕ) (given : ℕ) 
       let r = image-read layout in
       reading-passes layout cylinder side _ _ track-passed (omega (arith, whole, sums, r .some)) (omega (arith, whole, sums, r .short)) refl
 
--- What format writes, read hands back.
-pub format-then-read : ReadsBackAsWritten
+-- What format wrote, as read takes it: it reads back, and is not refused.
+pub record Taken (layout cylinder side : ℕ) (contents marks image : List ℕ) (answer : Reading) (area : List ℕ) : Type 0 where
+  pub back : ReadsBack (trackOf layout cylinder side) contents marks (numbers (layoutOf layout .sectors) 1) image
+  pub told : answer ≡ reading (trackOf layout cylinder side) image
+  pub left : area ≡ areaOf (trackOf layout cylinder side) (cell image) (8 * length image) (met (trackOf layout cylinder side) image)
+
+pub written-taken : (layout cylinder side : ℕ) (contents marks before image : List ℕ) (answer : Reading) (area : List ℕ) → Bytes contents
+    → Formats layout cylinder side contents marks before Passed image → Reads layout cylinder side image (layoutOf layout .«area_bytes») answer area
+    → Taken layout cylinder side contents marks image answer area
 unfolding readAnswer readArea by
-format-then-read layout cylinder side contents marks before image answer area all formats reads =
+written-taken layout cylinder side contents marks before image answer area all formats reads =
     let t = trackOf layout cylinder side in
     let passes = told-passed (refusal (formatTests layout cylinder side contents marks (length before))) Passed (formats .answers) refl in
     let same : image ≡ written t contents marks = formats .leaves ∙ rw passes in
-    let back = accepted-trip layout cylinder side contents marks (length before) all passes in
+    let trip = accepted-trip layout cylinder side contents marks (length before) all passes in
     let read = accepted-read layout cylinder side contents marks (length before) all passes in
-    let told : answer ≡ reading t image = reads .answers ∙ rw (same, read) in
-    let left : area ≡ areaOf t (cell image) (8 * length image) (met t image) = reads .leaves ∙ rw (same, read) in
-    let back-so = subst (λ (x : List ℕ). ReadsBack t contents marks (numbers (layoutOf layout .sectors) 1) x) (sym same) back in
+    record {
+      back = subst (λ (x : List ℕ). ReadsBack t contents marks (numbers (layoutOf layout .sectors) 1) x) (sym same) trip;
+      told = reads .answers ∙ rw (same, read);
+      left = reads .leaves ∙ rw (same, read);
+    }
+
+-- What format writes, read hands back.
+pub format-then-read : ReadsBackAsWritten
+format-then-read layout cylinder side contents marks before image answer area all formats reads =
+    let t = trackOf layout cylinder side in
+    let taken = written-taken layout cylinder side contents marks before image answer area all formats reads in
+    let told = taken .told in
+    let left = taken .left in
+    let back-so = taken .back in
     record {
       accepted = ap (λ (r : Reading). r .verdict) told;
       counted = ap (λ (r : Reading). r .sectors) told;
@@ -198,6 +218,10 @@ format-then-read layout cylinder side contents marks before image answer area al
           ∙ ap (λ (r : Record). r .place) (record-read t image s (h .0) (h .1) (modest layout .1))
           ∙ back-so .places s h
           ∙ ap (λ (i : ℕ). 8 * blockPlace (layoutOf layout) i) (natural-position s (layoutOf layout .sectors) 1 (h .0) (omega (arith, h .1)));
+      clocks = λ s h.
+          ap (λ (r : Reading). recordAt (r .records) s .clocks) told
+          ∙ ap (λ (r : Record). r .clocks) (record-read t image s (h .0) (h .1) (modest layout .1))
+          ∙ back-so .clocks s h;
       slots = λ s h. slot-read t image s (h .0) (h .1) (modest layout .2) area left ∙ back-so .sectors s h .holds;
       whole = length-read t image area (modest layout .2) left;
     }

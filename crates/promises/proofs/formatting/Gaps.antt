@@ -9,7 +9,8 @@ use native.Mathlib.Nat.{add-assoc, add-zero}
 use native.Mathlib.Omega.{arith}
 use lib.Dec.{T}
 use lib.ListN.{length, getD, drop}
-use Rattle.coding.specs.Coding.{clock, four, high, low}
+use Rattle.cells.specs.Cells.{clock}
+use Rattle.coding.specs.Coding.{four, high, low}
 use Rattle.cells.specs.declared.Mode.{Mode}
 use Rattle.cells.specs.declared.Mode.the-variants.{Fm, Mfm}
 use Rattle.format.specs.Order.{Symbol, mark, image, run}

@@ -6,13 +6,13 @@ use Prim.Native.Nat.{ℕ, zero, suc, _+_, _-_, _*_, _<_, _≤_}
 use native.Mathlib.Nat.{suc-mul, suc-add, zero-add}
 use native.Mathlib.Omega.{arith}
 use lib.ListN.{length, getD}
-use Rattle.cells.specs.Cells.{cell, dataBytes, Byte, Bytes}
+use Rattle.cells.specs.Cells.{cell, dataBytes, bytesClocks, Byte, Bytes}
 use Rattle.cells.proofs.Bytes.{bytes-append, bytes-take, bytes-drop}
 use Rattle.cells.specs.declared.Mode.{Mode}
 use Rattle.cells.proofs.Joined.{cell-lt}
 use Rattle.edc.specs.Register.{edcOf, edcBytes}
 use Rattle.edc.proofs.Laws.{edc-lt}
-use Rattle.marks.specs.Marks.{markBytes, markOf}
+use Rattle.marks.specs.Marks.{markBytes, markOf, lastBit}
 use Rattle.format.specs.Order.{Symbol, mark, image, run, bytes, checked, gap, block, Numbered, address, sector, sectors, track, formatted}
 use Rattle.layouts.specs.Layouts.{Every}
 use Rattle.format.proofs.Parts.{Slotted, length-slot, width-sector}
@@ -27,7 +27,7 @@ use Rattle.marks.specs.declared.Mark.the-variants.{Index, Identifier}
 use Rattle.marks.proofs.Spelling.{Stand}
 use Rattle.marks.specs.Marks.{markCells}
 use Rattle.promises.specs.RoundTrip.{Legible}
-use Rattle.promises.proofs.formatting.Standing.{On, on-move, on-mark, on-bytes, on-image}
+use Rattle.promises.proofs.formatting.Standing.{On, on-move, on-mark, after-mark, on-bytes, stand-clocks, on-image}
 use Rattle.promises.proofs.formatting.Quiet.{Quiet, quiet-none, quiet-join}
 use Rattle.promises.proofs.formatting.Gaps.{gap-mark, quiet-index, gap-last}
 
@@ -46,11 +46,14 @@ on-block : (mode : Mode) (c : ℕ → ℕ) → ((i : ℕ) → c i < 2) → (p : 
     → Stand c p (string mode m)
     × (dataBytes c (p + markCells mode) (k + 2) ≡ checked mode m xs)
     × On mode c (p + markCells mode + 16 * (k + 2)) ss
+    × (bytesClocks mode c (lastBit m) (p + markCells mode) (k + 2) ≡ 0)
 on-block mode c bit p m xs ss k e f o =
     let start = on-mark mode c p m (bytes (checked mode m xs) ss) o in
     let rest = on-bytes mode c bit (p + markCells mode) (checked mode m xs) ss (checked-bytes mode m xs f) (start .1) in
+    let behind = after-mark mode c p m (bytes (checked mode m xs) ss) o in
+    let clear = stand-clocks mode c bit (lastBit m) (p + markCells mode) (checked mode m xs) ss (checked-bytes mode m xs f) (behind .1) in
     let long : length (checked mode m xs) ≡ k + 2 = length-checked mode m xs ∙ rw e in
-    (start .0, rw long at (rest .0), rw long at (rest .1))
+    (start .0, rw long at (rest .0), rw long at (rest .1), rw long at clear)
 
 -- ---- places
 
@@ -78,6 +81,8 @@ module _ (t : Track) (c : ℕ → ℕ) (n : ℕ) where
     pub between : Quiet (t .layout .mode) c n (identifierCell (t .layout) i + markCells (t .layout .mode) + 96) (blockCell (t .layout) i)
     pub marked : Stand c (blockCell (t .layout) i) (string (t .layout .mode) m)
     pub holds : dataBytes c (blockCell (t .layout) i + markCells (t .layout .mode)) (t .layout .size + 2) ≡ checked (t .layout .mode) m xs
+    pub faultless :
+        bytesClocks (t .layout .mode) c (lastBit m) (blockCell (t .layout) i + markCells (t .layout .mode)) (t .layout .size + 2) ≡ 0
     pub room : blockCell (t .layout) i + blockCells (t .layout) ≤ n
 
   -- From position i on stand the sectors of the list, each with its mark and its slot, and then nothing.
@@ -126,6 +131,7 @@ module _ (t : Track) (fit : Legible (t .layout)) (hc : Byte (t .cylinder)) (hs :
           between = rw there at (second .0);
           marked = body .0;
           holds = body .1;
+          faultless = body .3;
           room = room;
         },
         on-move mode c _ _ _ behind (body .2),

@@ -26,7 +26,7 @@ use Rattle.walk.specs.declared.Block.the-variants.{Within}
 use Rattle.walk.specs.declared.Event.{Event}
 use Rattle.promises.specs.RoundTrip.{times, position, acceptedFrom, wentIn}
 use Rattle.promises.specs.Sectors.{ReadsSo}
-use Rattle.promises.proofs.Blocks.{so-same, written-so, block-placed, alone-so}
+use Rattle.promises.proofs.Blocks.{so-same, written-so, block-placed, block-clocks, asked-mark, alone-so}
 use Rattle.promises.proofs.formatting.Rounds.{stands-at, edc-right}
 use Rattle.promises.proofs.formatting.Held.{blockCell, Stood, Held}
 
@@ -44,7 +44,7 @@ none-foreign l i [] = refl
 none-foreign l i (s ∷ ss) = none-foreign l (suc i) ss
 
 -- A number that is not in the list has no block.
-blocks-none : (l : Layout) (s i : ℕ) (order : List ℕ) → times s order ≡ 0 → blocks s (acceptedFrom l i order) ≡ []
+pub blocks-none : (l : Layout) (s i : ℕ) (order : List ℕ) → times s order ≡ 0 → blocks s (acceptedFrom l i order) ≡ []
 unfolding blocks acceptedFrom times
 blocks-none l s i [] e = refl
 blocks-none l s i (x ∷ xs) e = go (eqb x s) e (blocks-none l s (suc i) xs)
@@ -82,7 +82,7 @@ module _ (t : Track) (c : ℕ → ℕ) (n : ℕ) (contents marks : List ℕ) (s 
 -- ---- one block
 
 -- The first of some data bytes.
-data-take : (c : ℕ → ℕ) (a j k : ℕ) → take j (dataBytes c a (j + k)) ≡ dataBytes c a j
+pub data-take : (c : ℕ → ℕ) (a j k : ℕ) → take j (dataBytes c a (j + k)) ≡ dataBytes c a j
 unfolding dataBytes
 data-take c a zero k = refl
 data-take c a (suc j) k = rw (suc-add j k, data-take c (a + 16) j k)
@@ -117,3 +117,14 @@ pub single-placed : (t : Track) (c : ℕ → ℕ) (n : ℕ) (contents marks : Li
     → Single t c n contents marks s at (blocks s es) → sectorOf t c n es s .known .place ≡ blockCell (t .layout) at
 single-placed t c n contents marks s at es high here =
     ap (λ (x : Sector). x .known .place) (alone-so t c n es s _ high (here .one)) ∙ block-placed t c n (blockCell (t .layout) at)
+
+-- None of its clock cells is doubtful.
+pub single-clocks : (t : Track) (c : ℕ → ℕ) (n : ℕ) (contents marks : List ℕ) (s at : ℕ) (es : List Event) → s ≤ t .layout .sectors
+    → Single t c n contents marks s at (blocks s es) → sectorOf t c n es s .known .clocks ≡ 0
+single-clocks t c n contents marks s at es high here =
+    let stood = here .stood in
+    let room = stood .room in
+    ap (λ (x : Sector). x .known .clocks) (alone-so t c n es s _ high (here .one))
+    ∙ block-clocks t c n (blockCell (t .layout) at) (markOf (getD marks (s - 1) 0))
+    (stands-at (t .layout .mode) c n (markOf (getD marks (s - 1) 0)) (blockCell (t .layout) at) (omega arith) (stood .marked))
+    (asked-mark (getD marks (s - 1) 0)) ∙ stood .faultless

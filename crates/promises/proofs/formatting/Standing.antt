@@ -1,21 +1,22 @@
 -- What stands in the cells: the symbols of a track from some cell on, after some bit. Field by field, what is read there is what was
 -- written: runs are passed over, marks are their strings, coded bytes are read back. And an image stands in its own cells.
-use mathlib.Core.Path.{_≡_, refl, ap₂}
+use mathlib.Core.Path.{_≡_, refl, sym, ap, ap₂, _∙_}
 use mathlib.Core.List.{List, [], _∷_, _++_}
 use Prim.Native.Nat.{ℕ, zero, suc, _+_, _*_, _%_, _<_}
 use native.Mathlib.Nat.{add-assoc, add-zero, zero-add}
 use native.Mathlib.Omega.{arith}
 use lib.Dec.{lit<}
 use lib.ListN.{length, getD}
-use Rattle.cells.specs.Cells.{cell, octet, dataBytes, Bytes}
+use Rattle.cells.specs.Cells.{cell, octet, dataBytes, bytesClocks, Bytes}
 use Rattle.cells.specs.declared.Mode.{Mode}
 use Rattle.cells.specs.declared.Mode.the-variants.{Fm, Mfm}
-use Rattle.coding.proofs.Coding.{read-back, high-lt, low-lt}
+use Rattle.coding.proofs.Coding.{read-back, coded-clocks, high-lt, low-lt}
+use Rattle.cells.proofs.Clocks.{last-bit}
 use Rattle.cells.proofs.Digits.{bit-lt}
 use Rattle.cells.proofs.Joined.{aligned}
 use Rattle.format.specs.Order.{Symbol, plain, mark, image, run, bytes}
 use Rattle.marks.proofs.Spelling.{string-width}
-use Rattle.marks.specs.Marks.{string, markByte}
+use Rattle.marks.specs.Marks.{string, markByte, lastBit}
 use Rattle.marks.specs.declared.Mark.{Mark}
 use Rattle.marks.specs.declared.Mark.the-variants.{Index, Identifier, Data, Control, Open}
 use Rattle.marks.proofs.Spelling.{Stand}
@@ -54,13 +55,17 @@ module _ (mode : Mode) (c : ℕ → ℕ) where
       let e : p + 16 + 16 * k ≡ p + 16 * suc k = omega arith in
       rw e at (on-run (p + 16) k x ss (on-plain p x (run k x ss) o))
 
-  -- and a mark, and behind it.
-  pub on-mark : (p : ℕ) (m : Mark) (ss : List Symbol) → On mode c p (mark m ∷ ss) → Stand c p (string mode m) × On mode c (p + markCells mode) ss
+  -- and a mark, and behind it, after its last bit.
+  pub after-mark : (p : ℕ) (m : Mark) (ss : List Symbol) → On mode c p (mark m ∷ ss)
+      → Stand c p (string mode m) × Stand c (p + markCells mode) (image mode (lastBit m) ss)
   unfolding image
-  on-mark p m ss o =
-      let both = stand-append c p (string mode m) (image mode (markByte m % 2) ss) (o .2) in
+  after-mark p m ss o =
+      let both = stand-append c p (string mode m) (image mode (lastBit m) ss) (o .2) in
       let e : p + 8 * length (string mode m) ≡ p + markCells mode = omega (arith, string-width mode m) in
-      (both .0, (markByte m % 2, bit-lt (markByte m), rw e at (both .1)))
+      (both .0, rw e at (both .1))
+
+  pub on-mark : (p : ℕ) (m : Mark) (ss : List Symbol) → On mode c p (mark m ∷ ss) → Stand c p (string mode m) × On mode c (p + markCells mode) ss
+  on-mark p m ss o = let both = after-mark p m ss o in (both .0, (lastBit m, bit-lt (markByte m), both .1))
 
   -- Bytes are read back.
   pub on-bytes : ((i : ℕ) → c i < 2) → (p : ℕ) (xs : List ℕ) (ss : List Symbol) → Bytes xs → On mode c p (bytes xs ss)
@@ -71,6 +76,17 @@ module _ (mode : Mode) (c : ℕ → ℕ) where
       let rest = on-bytes bit (p + 16) xs ss (f .1) (on-plain p x (bytes xs ss) o) in
       let e : p + 16 + 16 * length xs ≡ p + 16 * suc (length xs) = omega arith in
       (ap₂ _∷_ (read-back c bit mode (o .0) x p (f .0) (o .2 .0) (o .2 .1 .0)) (rest .0), rw e at (rest .1))
+
+  -- None of their clock cells is doubtful, read after the bit that they were coded after.
+  pub stand-clocks : ((i : ℕ) → c i < 2) → (b p : ℕ) (xs : List ℕ) (ss : List Symbol) → Bytes xs → Stand c p (image mode b (bytes xs ss))
+      → bytesClocks mode c b p (length xs) ≡ 0
+  unfolding bytes bytesClocks image
+  stand-clocks bit b p [] ss f o = refl
+  stand-clocks bit b p (x ∷ xs) ss f o =
+      let last : x % 2 ≡ c (p + 15) =
+      ap (λ (y : ℕ). y % 2) (sym (read-back c bit mode b x p (f .0) (o .0) (o .1 .0))) ∙ last-bit mode c bit p in
+      let rest = stand-clocks bit (x % 2) (p + 16) xs ss (f .1) (rw (add-assoc p 8 8) at (o .1 .1)) in
+      ap₂ _+_ (coded-clocks c bit mode b x p (o .0) (o .1 .0)) (ap (λ (a : ℕ). bytesClocks mode c a (p + 16) (length xs)) (sym last) ∙ rest)
 
 -- ---- an image
 

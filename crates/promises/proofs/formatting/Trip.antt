@@ -25,7 +25,7 @@ use Rattle.walk.specs.declared.Block.{Block}
 use Rattle.walk.specs.declared.Block.the-variants.{Within}
 use Rattle.promises.specs.RoundTrip.{Legible, times, position, Ordered, acceptedFrom, wentIn, ReadsBack}
 use Rattle.promises.specs.Sectors.{sectorIn, ReadsSo}
-use Rattle.promises.proofs.formatting.Single.{none-bad, none-foreign, Single, single, single-so, single-placed}
+use Rattle.promises.proofs.formatting.Single.{none-bad, none-foreign, Single, single, single-so, single-placed, single-clocks}
 use Rattle.promises.proofs.formatting.Rounds.{walk-held}
 use Rattle.promises.proofs.formatting.Held.{fields-sum, Held, track-held}
 
@@ -83,6 +83,9 @@ module _ (t : Track) (fit : Legible (t .layout)) (hc : Byte (t .cylinder)) (hs :
         single-placed t (cell im) (8 * length im) contents marks s (0 + position s order) (met t im) (h .1) (one-block s h)
         ∙ ap (λ (i : ℕ). 8 * blockPlace (t .layout) i) from-zero
 
+    clocks : (s : ℕ) → Numbered (t .layout) s → sectorIn t im s .known .clocks ≡ 0
+    clocks s h = single-clocks t (cell im) (8 * length im) contents marks s (0 + position s order) (met t im) (h .1) (one-block s h)
+
     -- A formatted track reads back.
     pub round-trip : Permitted t contents marks → ReadsBack t contents marks order im
     round-trip permitted =
@@ -92,12 +95,13 @@ module _ (t : Track) (fit : Legible (t .layout)) (hc : Byte (t .cylinder)) (hs :
           foreign = rw meets (none-foreign (t .layout) 0 order);
           sectors = sectors permitted;
           places = places;
+          clocks = clocks;
         }
 
 -- ---- natural order
 
 -- A number before the first is not in the list,
-times-before : (s k a : ℕ) → s < a → times s (numbers k a) ≡ 0
+pub times-before : (s k a : ℕ) → s < a → times s (numbers k a) ≡ 0
 unfolding times
 times-before s zero a h = refl
 times-before s (suc k) a h = rw (ne-eqb a s (λ e. omega arith)) (times-before s k (suc a) (omega arith))

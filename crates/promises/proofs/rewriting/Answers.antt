@@ -1,6 +1,6 @@
 -- What a rewrite, cut at any point, leaves to be read: every other sector and both counts are as before, and the sector itself is what stands in its
 -- block now.
-use mathlib.Core.Path.{_≡_, refl, sym, ap, _∙_}
+use mathlib.Core.Path.{_≡_, refl, sym, ap, ap₂, _∙_}
 use mathlib.Core.Bool.{Bool, true, false, cond}
 use mathlib.Core.List.{List, [], _∷_}
 use mathlib.Core.Logic.{_⊎_, inl, inr, ⊎-elim}
@@ -9,11 +9,12 @@ use native.Mathlib.Omega.{arith}
 use borrow.Author.Tests.{eqb-true}
 use lib.Dec.{T, eqb}
 use Rattle.cells.specs.Cells.{dataBytes}
+use Rattle.cells.proofs.Clocks.{clocks-same}
 use Rattle.layouts.specs.declared.Track.{Track}
 use Rattle.marks.specs.Marks.{markCells, stands}
 use Rattle.marks.specs.declared.Mark.{Mark}
 use Rattle.marks.specs.declared.Mark.the-variants as marks
-use Rattle.read.specs.Records.{Sector, answering, blockAfter, blockAnswer, blockBytes, identifierRecord, recordFor, sectorOf}
+use Rattle.read.specs.Records.{Sector, answering, blockAfter, blockAnswer, blockBytes, markAt, blockClocks, identifierRecord, recordFor, sectorOf}
 use Rattle.answers.specs.declared.Answer.{Answer}
 use Rattle.search.proofs.Searching.{searchable}
 use Rattle.walk.specs.Events.{bads, foreigns, blocks}
@@ -65,6 +66,13 @@ module _ (t : Track) (c d : ℕ → ℕ) (n : ℕ) where
     unfolding blockAnswer blockAfter edcRight
     answer-kept = rw (K .mark marks.Open tt, K .mark marks.Control tt, data-kept, bytes-kept (t .layout .size + 2) (omega arith))
 
+    -- So is the sum: the first clock cell behind the rewritten block, which may change, is none of its cells.
+    clocks-kept : blockClocks t d n p ≡ blockClocks t c n p
+    unfolding blockClocks markAt
+    clocks-kept =
+        rw (K .mark marks.Open tt, K .mark marks.Control tt)
+        (clocks-same (t .layout .mode) c d _ (p + markCells (t .layout .mode)) (t .layout .size + 2) (λ i a b. K .cells i a (omega arith)))
+
   -- A block within the image is so kept.
   abbrev Keeps : Block → Type 0
   Keeps Missing = Unit {0}
@@ -76,8 +84,8 @@ module _ (t : Track) (c d : ℕ → ℕ) (n : ℕ) where
   identifier-kept Missing K = refl
   identifier-kept (Beyond p) K = refl
   identifier-kept (Within p) K =
-      ap (λ (a : Answer). answering (t .layout .size) a p (blockBytes t d n p)) (answer-kept K)
-      ∙ ap (λ (xs : List ℕ). answering (t .layout .size) (blockAnswer t c n p) p xs) (data-kept K)
+      ap₂ (λ (a : Answer) (k : ℕ). answering (t .layout .size) a p k (blockBytes t d n p)) (answer-kept K) (clocks-kept K)
+      ∙ ap (λ (xs : List ℕ). answering (t .layout .size) (blockAnswer t c n p) p (blockClocks t c n p) xs) (data-kept K)
 
   -- A sector all of whose blocks are kept is as before.
   abbrev KeepsAll : List Block → Type 0
@@ -136,9 +144,13 @@ module _ (t : Track) (c d : ℕ → ℕ) (n m : ℕ) (R : Rewritten (t .layout) 
   pub found-again : blocks s (events t d n) ≡ Within m ∷ []
   found-again = ap (blocks s) (walk-kept t c d n m R s (blocks-claims s m (events t c n) alone)) ∙ alone
 
-  -- So it reads as that block does.
+  -- So it reads as that block does,
   pub own-so : s ≤ t .layout .sectors → (back : Back) → ReadsSo (identifierRecord t d n (Within m)) back → ReadsSo (sectorOf t d n (events t d n) s) back
   own-so high back so = so-same (alone-so t d n (events t d n) s (Within m) high found-again) so
+
+  -- has its sum,
+  pub own-clocks : s ≤ t .layout .sectors → sectorOf t d n (events t d n) s .known .clocks ≡ identifierRecord t d n (Within m) .known .clocks
+  own-clocks high = ap (λ (x : Sector). x .known .clocks) (alone-so t d n (events t d n) s (Within m) high found-again)
 
   -- and has its place.
   pub own-place : s ≤ t .layout .sectors → sectorOf t d n (events t d n) s .known .place ≡ m

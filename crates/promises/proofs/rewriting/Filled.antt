@@ -1,4 +1,5 @@
--- After the last store the block holds the new bytes and their right EDC: the coded bytes that were stored still stand, and they read back.
+-- After the last store the block holds the new bytes and their right EDC, and no doubtful clock cell: the coded bytes that were stored still stand, and they
+-- read back.
 use mathlib.Core.Path.{_≡_, refl, sym, ap, ap₂, _∙_}
 use mathlib.Core.Bool.{true}
 use mathlib.Core.List.{List, [], _∷_, _++_, append-nil, append-assoc}
@@ -8,15 +9,16 @@ use native.Mathlib.Omega.{arith}
 use borrow.Author.Tests.{eq-eqb}
 use lib.ListN.{length, getD, length-append}
 use lib.Seq.{getD-set-same, getD-set-other}
-use Rattle.cells.specs.Cells.{cell, octet, dataBytes, Bytes}
+use Rattle.cells.specs.Cells.{cell, octet, dataBytes, bytesClocks, Bytes}
 use Rattle.cells.specs.declared.Mode.{Mode}
-use Rattle.coding.proofs.Coding.{read-back}
+use Rattle.coding.proofs.Coding.{read-back, coded-clocks}
 use Rattle.cells.proofs.Bytes.{bytes-append}
+use Rattle.cells.proofs.Clocks.{last-bit}
 use Rattle.cells.proofs.Joined.{cell-lt}
 use Rattle.edc.specs.Register.{edcBytes}
 use Rattle.edc.proofs.Laws.{edc-closes, edc-lt}
 use Rattle.layouts.specs.declared.Layout.{Layout}
-use Rattle.marks.specs.Marks.{markByte, covered}
+use Rattle.marks.specs.Marks.{markByte, lastBit, covered}
 use Rattle.marks.specs.declared.Mark.{Mark}
 use Rattle.marks.specs.Marks.{markCells}
 use Rattle.walk.specs.Walk.{edcRight}
@@ -40,6 +42,20 @@ coded-read c bit mode b (x ∷ xs) ys p small h =
     ap₂ _∷_
     (read-back c bit mode (b % 2) x p (small .0) (ap (octet c) (omega arith) ∙ h 0 (omega arith)) (h 1 (omega arith)))
     (coded-read c bit mode x xs ys (p + 16) (small .1) (λ k u. ap (octet c) (omega arith) ∙ h (suc (suc k)) (omega arith)))
+
+-- and none of their clock cells is doubtful, after the bit that they were coded after.
+coded-none : (c : ℕ → ℕ) → ((i : ℕ) → c i < 2) → (mode : Mode) (b : ℕ) (xs : List ℕ) (p : ℕ) → Bytes xs
+    → ((k : ℕ) → k < 2 * length xs → octet c (p + 8 * k) ≡ getD (coding mode b xs) k 0) → bytesClocks mode c (b % 2) p (length xs) ≡ 0
+unfolding coding bytesClocks
+coded-none c bit mode b [] p small h = refl
+coded-none c bit mode b (x ∷ xs) p small h =
+    let at : p ≡ p + 8 * 0 = omega arith in
+    let upper = ap (octet c) at ∙ h 0 (omega arith) in
+    let last : c (p + 15) ≡ x % 2 =
+    sym (last-bit mode c bit p) ∙ ap (λ (y : ℕ). y % 2) (read-back c bit mode (b % 2) x p (small .0) upper (h 1 (omega arith))) in
+    ap₂ _+_ (coded-clocks c bit mode (b % 2) x p upper (h 1 (omega arith)))
+    (ap (λ (a : ℕ). bytesClocks mode c a (p + 16) (length xs)) last
+    ∙ coded-none c bit mode x xs (p + 16) (small .1) (λ k u. ap (octet c) (omega arith) ∙ h (suc (suc k)) (omega arith)))
 
 edc-small : (e : ℕ) → e < 65536 → Bytes (edcBytes e)
 edc-small e h = (omega arith, (omega arith, tt))
@@ -105,6 +121,15 @@ module _ (l : Layout) (image : List ℕ) (place : ℕ) (mark : Mark) (contents :
           (coded-read (cell (now all)) (cell-lt (now all)) (l .mode) (markByte mark) (contents ++ edcBytes edc) [] (place + markCells (l .mode))
           (bytes-append contents (edcBytes edc) small (edc-small edc (edc-lt (covered (l .mode) mark ++ contents))))
           (λ k u. rw (append-nil (contents ++ edcBytes edc)) (coded-there k (omega arith))))
+
+      -- No clock cell of them is doubtful after the new mark.
+      pub clocks-new : bytesClocks (l .mode) (cell (now all)) (lastBit mark) (place + markCells (l .mode)) (l .size + 2) ≡ 0
+      clocks-new =
+          let e : l .size + 2 ≡ length (contents ++ edcBytes edc) = omega (arith, length-append contents (edcBytes edc)) in
+          rw e
+          (coded-none (cell (now all)) (cell-lt (now all)) (l .mode) (markByte mark) (contents ++ edcBytes edc) (place + markCells (l .mode))
+          (bytes-append contents (edcBytes edc) small (edc-small edc (edc-lt (covered (l .mode) mark ++ contents))))
+          (λ k u. coded-there k (omega arith)))
 
       -- Counted over the new mark too, it is right.
       pub edc-new : edcRight (l .mode) (cell (now all)) mark (place + markCells (l .mode)) (l .size + 2) ≡ true

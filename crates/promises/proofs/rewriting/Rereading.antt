@@ -14,7 +14,7 @@ use Rattle.layouts.specs.Refusals.{readingTests}
 use Rattle.layouts.specs.Tracks.{trackOf}
 use Rattle.layouts.specs.declared.Layout.{Layout}
 use Rattle.layouts.specs.declared.Track.{Track}
-use Rattle.read.specs.Records.{Sector, itsAnswer, itsPlace, bySector, areaOf}
+use Rattle.read.specs.Records.{Sector, itsAnswer, itsPlace, itsClocks, bySector, areaOf}
 use Rattle.read.specs.Outcomes.{readTests, readAnswer, readArea, Reads}
 use Rattle.read.specs.declared.Reading.{Reading}
 use Rattle.read.proofs.Passing.{modest}
@@ -74,4 +74,4 @@ module _ (layout cylinder side sector : ℕ) (image now : List ℕ) (m : ℕ) (S
       × (after ≡ sets area ((sector - 1) * l .size) (sectorIn t now sector .slot))
   unfolding readAnswer readArea by
   read-so before answer area after r q =
-      (q .answers ∙ rw (r .answers, passes, passes-now, said-but itsAnswer, said-but itsPlace, bad, foreign), q .leaves ∙ rw (r .leaves, passes, passes-now) area-but)
+      (q .answers ∙ rw (r .answers, passes, passes-now, said-but itsAnswer, said-but itsPlace, said-but itsClocks, bad, foreign), q .leaves ∙ rw (r .leaves, passes, passes-now) area-but)

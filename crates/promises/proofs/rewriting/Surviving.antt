@@ -21,14 +21,14 @@ use Rattle.walk.specs.declared.Block.the-variants.{Within}
 use Rattle.promises.specs.Cuts.{cut}
 use Rattle.promises.specs.Rewriting.{Fit, Survives}
 use Rattle.promises.specs.Sectors.{sectorIn, Back, readsBack, underWay, ReadsSo}
-use Rattle.promises.proofs.Blocks.{written-so, open-so}
+use Rattle.promises.proofs.Blocks.{written-so, open-so, block-clocks, asked-mark}
 use Rattle.promises.proofs.rewriting.Claims.{Claims}
 use Rattle.promises.proofs.rewriting.Rewritten.{Rewritten}
-use Rattle.promises.proofs.rewriting.Answers.{bads-kept, foreigns-kept, other-sector, own-so, own-place}
+use Rattle.promises.proofs.rewriting.Answers.{bads-kept, foreigns-kept, other-sector, own-so, own-clocks, own-place}
 use Rattle.promises.proofs.rewriting.Cutting.{length-cut, cut-none}
 use Rattle.promises.proofs.rewriting.Fitted.{cut-open, cut-closed}
 use Rattle.promises.proofs.rewriting.Rereading.{read-so}
-use Rattle.promises.proofs.rewriting.Filled.{holds-new, edc-new}
+use Rattle.promises.proofs.rewriting.Filled.{holds-new, clocks-new, edc-new}
 use Rattle.promises.proofs.rewriting.Granted.{Sited}
 use Rattle.promises.proofs.rewriting.Running.{full, permitted, claims, room, whole-block, rewritten, new-mark}
 
@@ -115,6 +115,10 @@ module _ (layout cylinder side sector mark : ℕ) (contents image : List ℕ) (m
               (holds-new l image m (markOf mark) contents whole within (S .boundary) j e small)
               (edc-new l image m (markOf mark) contents whole within (S .boundary) j e small)
               (permitted layout cylinder side sector mark contents image m S F));
+          faultless = λ e.
+              rw same-length (own-clocks t (cell image) (cell (now j)) n m part sector (S .alone) (S .numbered))
+              ∙ block-clocks t (cell (now j)) n m (markOf mark) (closed j e) (asked-mark mark)
+              ∙ clocks-new l image m (markOf mark) contents whole within (S .boundary) j e small;
           placed = own-placed;
           reads = read-so layout cylinder side sector image (now j) m S same-length others bad foreign;
         }

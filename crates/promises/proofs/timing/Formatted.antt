@@ -9,12 +9,12 @@ use borrow.Author.Tests.{ltb-true, ltb-false}
 use lib.Dec.{ltb}
 use lib.ListN.{length, drop}
 use lib.Seq.{getD-drop, ext-getD}
-use Rattle.cells.specs.Cells.{Bytes, cell, octet}
+use Rattle.cells.specs.Cells.{Bytes, cell, octet, clock}
 use Rattle.cells.specs.declared.Mode.{Mode}
 use Rattle.cells.specs.declared.Mode.the-variants.{Fm, Mfm}
 use Rattle.cells.proofs.Bytes.{byte-at, cell-past}
 use Rattle.cells.proofs.Joined.{aligned}
-use Rattle.coding.specs.Coding.{clock, four, high}
+use Rattle.coding.specs.Coding.{four, high}
 use Rattle.format.specs.Order.{Symbol, run, image, track, formatted}
 use Rattle.format.specs.Refusals.{formatTests}
 use Rattle.layouts.specs.Layouts.{layoutOf, numbers}

@@ -3,16 +3,16 @@
 use mathlib.Core.Path.{_≡_, refl, sym, ap, subst, _∙_}
 use mathlib.Core.Bool.{Bool, true, false, cond}
 use mathlib.Core.List.{List, [], _∷_, _++_}
-use Prim.Native.Nat.{ℕ, zero, suc, _+_, _-_, _/_, _%_, _<_, _≤_}
+use Prim.Native.Nat.{ℕ, zero, suc, _+_, _/_, _%_, _<_, _≤_}
 use native.Mathlib.Nat.{zero-div, div-one}
 use native.Mathlib.Omega.{arith}
 use borrow.Author.Tests.{eq-eqb, ne-eqb, leb-true}
 use lib.Dec.{T, eqb, leb, lit≤}
 use lib.ListN.{drop}
-use Rattle.cells.specs.Cells.{cell}
+use Rattle.cells.specs.Cells.{cell, clock}
 use Rattle.cells.specs.declared.Mode.the-variants.{Mfm}
 use Rattle.cells.proofs.Table.{all-at}
-use Rattle.coding.specs.Coding.{clock, four, high, low}
+use Rattle.coding.specs.Coding.{four, high, low}
 use Rattle.marks.specs.Marks.{string, lastBit}
 use Rattle.marks.specs.declared.Mark.{Mark}
 use Rattle.marks.specs.declared.Mark.the-variants.{Index, Identifier, Data, Control, Open}

@@ -115,7 +115,7 @@ fn cut_and_begun_anew([rewrites, reads]: &mut [Tally; 2], rng: &mut Rng, call: &
         }
     });
     read::compare(reads, rng, &read::Call::new(call.track, left.clone()));
-    let expected = call.expected(&call.before(plan), cut, all);
+    let expected = call.expected(&call.before(plan), cut, all, &left);
     assert_eq!(Outcome::of_image(call.track, &left), expected, "read after {cut} of {all} stores: {call:?}");
     let other = call.other(rng);
     let (uncut, anew) = (other.done(), rewrite::Call { image: left, ..other }.done());

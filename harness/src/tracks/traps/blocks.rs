@@ -1,7 +1,7 @@
 //! What belongs to a block, and which answer comes before which.
 use super::super::sketch::*;
 use super::Mark::{First, Second};
-use super::{in_both, of_control, Trap};
+use super::{in_both, in_mfm, of_control, Trap};
 use crate::reference::coding::Mode;
 
 pub fn all() -> Vec<Trap> {
@@ -22,7 +22,9 @@ fn identifiers_in_a_block() -> Vec<Trap> {
         let bytes = bytes_of(&sketch.cells[from..]);
         let sketch = sketch.edc().gap(4);
         let shows = "an identifier and a data mark in a block are its bytes";
-        Trap::new("B8", shows, &sketch).answers(&[(1, 1, First)]).holds(1, &bytes)
+        // three in each mark; and in MFM the first byte, which is not coded after the data mark's last bit
+        let clocks = 3 + 3 + in_mfm(sketch.track);
+        Trap::new("B8", shows, &sketch).answers(&[(1, 1, First)]).holds(1, &bytes).doubtful(1, clocks)
     });
     let in_its_end = in_both(|start| {
         // the last cells of an EDC can be a mark's first ones: FM 1111, MFM 01
@@ -129,7 +131,10 @@ fn wrong_edc() -> Vec<Trap> {
         let mark = sketch.cells.len();
         let mut sketch = sketch.field(Data, &bytes).gap(4);
         sketch.cells[mark..mark + control.len()].copy_from_slice(&control);
-        Trap::new("edc", "a control mark over the EDC of a data mark", &sketch).answers(&[(1, 26, First)])
+        let clocks = in_mfm(sketch.track);
+        Trap::new("edc", "a control mark over the EDC of a data mark", &sketch)
+            .answers(&[(1, 26, First)])
+            .doubtful(1, clocks)
     });
     [last_bit, other_mark].into_iter().flatten().collect()
 }

@@ -121,7 +121,7 @@ fn whole_bytes() -> Vec<Trap> {
     [high, numbers].into_iter().flatten().collect()
 }
 
-/// In fields only data cells count.
+/// In fields only data cells count; and the most that the sum of a block's doubtful clocks can be.
 fn clocks() -> Vec<Trap> {
     in_both(|start| {
         let mut sketch = start;
@@ -132,8 +132,9 @@ fn clocks() -> Vec<Trap> {
             sketch = sketch.bytes(&bytes).edc();
             sketch.cells[from..].iter_mut().step_by(2).for_each(|clock| *clock ^= true);
         }
-        let sketch = sketch.gap(4);
+        let (size, sketch) = (sketch.track.layout().size as u32, sketch.gap(4));
         Trap::new("clocks", "every clock cell in address and block is wrong, and none matters", &sketch)
             .answers(&[(1, 1, First)])
+            .doubtful(1, 8 * (size + 2))
     })
 }

@@ -2,8 +2,7 @@
 use super::super::letters::{lettered, CYLINDER_0, OTHERS};
 use super::super::sketch::*;
 use super::Mark::{First, Second};
-use super::{Track, Trap};
-use crate::reference::stores::stores;
+use super::{in_mfm, rewritten, Track, Trap};
 
 pub fn all() -> Vec<Trap> {
     let groups = [
@@ -79,7 +78,9 @@ fn others_first(name: &'static str, tracks: &[Track], letter: u8, answer: u32) -
         let (mark, open) = (sketch.blocks[0], cells_of(Open.image(sketch.track.mode())));
         sketch.cells[mark..mark + open.len()].copy_from_slice(&open);
         let shows = format!("{words} under an open mark: 25, not {answer}");
-        Trap::new(name, &shows, &sketch).answers(&[(1, 25, First), (2, 1, Second)])
+        // the first clock is coded after F8, which ends with ZERO
+        let clocks = in_mfm(sketch.track);
+        Trap::new(name, &shows, &sketch).answers(&[(1, 25, First), (2, 1, Second)]).doubtful(1, clocks)
     });
     [nobodys, twice, identifier_first, cut, open].into_iter().flatten().collect()
 }
@@ -130,26 +131,17 @@ fn other_letters() -> Vec<Trap> {
     [on_cylinder_0, elsewhere, wrong].into_iter().flatten().collect()
 }
 
-/// The image after the stores of a rewrite of its first block, but for the last ones.
-fn rewritten(mut trap: Trap, mark: u32, contents: &[u8], missing: usize) -> Trap {
-    let stores = stores(trap.track.layout, &trap.image, trap.blocks[0], mark, contents);
-    for &(at, octet) in &stores[..stores.len() - missing] {
-        trap.image[at] = octet;
-    }
-    trap
-}
-
 /// H5: what a rewrite leaves is read like everything else.
 fn rewritten_elsewhere() -> Vec<Trap> {
-    let f = |missing, answer, shows: &str| {
+    let f = |missing, answer, clocks, shows: &str| {
         on(&OTHERS, |start| {
             let bytes = lettered(start.track, 1, b'F');
-            let trap = Trap::new("H5", shows, &start.sector(1).sector(2));
-            rewritten(trap, 0xF8, &bytes, missing).answers(&[(1, answer, First), (2, 1, Second)])
+            let trap = rewritten(Trap::new("H5", shows, &start.sector(1).sector(2)), 0xF8, &bytes, missing);
+            trap.answers(&[(1, answer, First), (2, 1, Second)]).doubtful(1, clocks)
         })
     };
-    let whole = f(0, 3, "a data record rewritten as a control record with F is 3");
-    let cut_off = f(1, 25, "a rewrite as a control record with F that lacks its last store is 25");
+    let whole = f(0, 3, 0, "a data record rewritten as a control record with F is 3");
+    let cut_off = f(1, 25, 1, "a rewrite as a control record with F that lacks its last store is 25");
     let away = on(&OTHERS, |start| {
         let bytes = contents(start.track, 1);
         let sketch = record(start, 1, Control, b'F', WRONG).sector(2);

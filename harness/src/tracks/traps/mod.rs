@@ -6,7 +6,9 @@ mod searches;
 
 use super::sketch::{contents, Sketch};
 use super::{Track, FM, MFM};
+use crate::reference::coding::Mode;
 use crate::reference::records::{at, nowhere};
+use crate::reference::stores::stores;
 use crate::station::Reading;
 
 /// One of the data, control and open marks of a track.
@@ -80,6 +82,12 @@ impl Trap {
         self
     }
 
+    /// A sector has so many doubtful clocks. Without that it has none.
+    fn doubtful(mut self, sector: u8, clocks: u32) -> Trap {
+        self.reading.records[usize::from(sector) - 1].clocks = clocks;
+        self
+    }
+
     /// The slot of a sector holds these bytes.
     fn holds(mut self, sector: u8, bytes: &[u8]) -> Trap {
         let size = self.track.layout().size;
@@ -93,6 +101,11 @@ impl Trap {
     }
 }
 
+/// How many clocks are doubtful where one is wrong by the rule of MFM alone.
+fn in_mfm(track: Track) -> u32 {
+    u32::from(track.mode() == Mode::Mfm)
+}
+
 /// The answer of a right control record with `contents`, whose first byte is Z: cylinder 0 takes D alone.
 fn of_control(track: Track) -> u32 {
     if track.cylinder == 0 {
@@ -100,6 +113,15 @@ fn of_control(track: Track) -> u32 {
     } else {
         2
     }
+}
+
+/// The image after the stores of a rewrite of its first block, but for the last ones.
+fn rewritten(mut trap: Trap, mark: u32, contents: &[u8], missing: usize) -> Trap {
+    let stores = stores(trap.track.layout, &trap.image, trap.blocks[0], mark, contents);
+    for &(at, octet) in &stores[..stores.len() - missing] {
+        trap.image[at] = octet;
+    }
+    trap
 }
 
 /// The same trap in both modes.

@@ -18,25 +18,25 @@ use Rattle.read.proofs.tracks.read_track.Statement.{statement}
 use Rattle.read.proofs.tracks.read_track.Tie as tie
 
 abbrev Inv-loop : tie.InvT-loop
-Inv-loop track image area₀ answers₀ places₀ foreign₀ bad₀ place₀ end area answers places foreign bad place =
+Inv-loop track image area₀ answers₀ places₀ clocks₀ foreign₀ bad₀ place₀ end area answers places clocks foreign bad place =
     (place ≤ 8 * length image) × (bad + foreign ≤ place) × (length area ≡ track .layout .sectors * track .layout .size)
     × State track (cell image) (8 * length image) (met track image) (walk track (cell image) (8 * length image) (8 * length image - place) place)
-    answers places area bad foreign
+    answers places clocks area bad foreign
 
 abbrev μ-loop : tie.MeasureT-loop
-μ-loop track image area₀ answers₀ places₀ foreign₀ bad₀ place₀ end area answers places foreign bad place =
+μ-loop track image area₀ answers₀ places₀ clocks₀ foreign₀ bad₀ place₀ end area answers places clocks foreign bad place =
     8 * length image - place
 
 -- What is known of an accepted identifier: its sector is one of the track's, and its block has a place.
 known : (c : tie.After-event Inv-loop μ-loop)
     → let sector = c .event .given .0 .0 in
-    let started = c .before .before .before .before .before .before .before .before .before .before .before .before .before .args in
+    let started = c .before .before .before .before .before .before .before .before .before .before .before .before .before .before .args in
     let l = started .track .layout in
     let image = now (started .image) in
     (1 ≤ sector) × (sector ≤ l .sectors) × Placed (l .mode) (cell image) (8 * length image) (c .event .given .0 .1 .0) × Modest l
 known c =
     let ran = c .before .before .before .before .before in
-    let started = ran .before .before .before .before .before .before .before .before in
+    let started = ran .before .before .before .before .before .before .before .before .before in
     let few : 8 * length (now (started .args .image)) ≤ 2147483648 = omega (arith, started .pre .0) in
     let k = turn-accepted _ _ _ _ _ _ _ _ _ (ran .next-round .ensures) (c .before .before .before .round .given .1) (c .event .given .1) few in
     (k .0, k .1, k .2, started .pre .1)
@@ -49,8 +49,8 @@ mul-end c = search needs
 
 loop-holds : tie.Need-loop-holds Inv-loop μ-loop
 loop-holds c =
-    let s = c .before .before .before .before .before .pre in
-    let unread = c .before .before .unread-records .ensures in
+    let s = c .before .before .before .before .before .before .pre in
+    let unread = c .before .before .before .unread-records .ensures in
     (search needs, search needs, ap length (s .2) ∙ length-replicate _ 0, rw unread (state-start _ _ _ _ _ _ (walk-all _ _ _) (s .2)))
 
 next-round-requires : tie.Need-next-round-requires Inv-loop μ-loop
@@ -108,7 +108,7 @@ enter-requires : tie.Need-enter-requires Inv-loop μ-loop
 enter-requires c κs =
     let accepted = c .before .before .before in
     let ran = accepted .before .before .before .before .before in
-    let s = ran .before .before .before .before .before .before .before .before .pre in
+    let s = ran .before .before .before .before .before .before .before .before .before .pre in
     let k = known accepted in
     (s .0, s .1, k .0, k .1, k .2, ran .before .before .loop .inv .2)
 
@@ -139,6 +139,21 @@ mul-places c =
 
 array-write-places : tie.Need-array-write-places Inv-loop μ-loop
 array-write-places c =
+    let k = known (c .before .before .before .before .before .before) in
+    omega (arith, k .0, k .1, k .3)
+
+sub-clocks : tie.Need-sub-clocks Inv-loop μ-loop
+sub-clocks c =
+    let k = known (c .before .before .before .before .before .before) in
+    k .0
+
+mul-clocks : tie.Need-mul-clocks Inv-loop μ-loop
+mul-clocks c =
+    let k = known (c .before .before .before .before .before .before) in
+    omega (arith, k .1, k .3)
+
+array-write-clocks : tie.Need-array-write-clocks Inv-loop μ-loop
+array-write-clocks c =
     let k = known (c .before .before .before .before .before .before) in
     omega (arith, k .0, k .1, k .3)
 
@@ -195,17 +210,17 @@ loop-again-4 c =
       e .kept .1 .1 .1 .1 .1 .0 ∙ l .inv .2,
       state-accepted _ _ _ (l .inv .3) _ _ unanswered left (k .3 .1) (k .3 .2) (k .0) (k .1)
           (ap (λ (r : Record). set (l .answers) at (record { answer = r .answer })) (e .ensures .0)) (ap (λ (r : Record). set (l .places) at (r .place)) (e .ensures .0))
-          (e .ensures .1),
+          (ap (λ (r : Record). set (l .clocks) at (r .clocks)) (e .ensures .0)) (e .ensures .1),
     )
 
 same-length : tie.Need-same-length Inv-loop μ-loop
-same-length c = c .before .before .loop .inv .2 ∙ sym (ap length (c .before .before .before .before .before .before .before .before .pre .2) ∙ length-replicate _ 0)
+same-length c = c .before .before .loop .inv .2 ∙ sym (ap length (c .before .before .before .before .before .before .before .before .before .pre .2) ∙ length-replicate _ 0)
 
 returns : tie.Need-returns Inv-loop μ-loop
 returns c =
     let l = c .before .before .loop in
     let z = state-end _ _ _ (l .inv .3) (walk-past _ _ _ _ _ (c .before .loop-test .left)) in
-    (rw (← z .0, ← z .1, ← z .3, ← z .4), z .2)
+    (rw (← z .0, ← z .1, ← z .2, ← z .4, ← z .5), z .3)
 
 pub read-track-spec : {M : Type 1} → statement M
 read-track-spec =
@@ -236,6 +251,9 @@ read-track-spec =
     sub-places
     mul-places
     array-write-places
+    sub-clocks
+    mul-clocks
+    array-write-clocks
     loop-less-2
     loop-again-2
     loop-less-3

@@ -1,9 +1,8 @@
 -- `list_sectors` meets its contract: what is left to list from index i on ends where the whole does.
 use borrow.Author.Needs.{needs}
 use mathlib.Core.Path.{_≡_, sym, ap, _∙_}
-use Prim.Native.Nat.{ℕ, _+_, _-_, _*_, _≤_}
-use native.Mathlib.Omega.{arith}
-use lib.ListN.{length, getD, set, length-set, length-replicate}
+use Prim.Native.Nat.{ℕ, _-_, _*_, _≤_}
+use lib.ListN.{length, length-set, length-replicate}
 use lib.Seq.{sets}
 use Rattle.layouts.specs.Layouts.{mostSectors}
 use Rattle.station.specs.Records.{recordWidth, recordList}
@@ -36,6 +35,12 @@ mul-place c = search needs
 element-copy-out-place : tie.Need-element-copy-out-place Inv-loop μ-loop
 element-copy-out-place c = search needs
 
+mul-clocks : tie.Need-mul-clocks Inv-loop μ-loop
+mul-clocks c = search needs
+
+element-copy-out-clocks : tie.Need-element-copy-out-clocks Inv-loop μ-loop
+element-copy-out-clocks c = search needs
+
 record-numbers-requires : tie.Need-record-numbers-requires Inv-loop μ-loop
 record-numbers-requires c κs = search needs
 
@@ -64,9 +69,22 @@ mul-list-4 : tie.Need-mul-list-4 Inv-loop μ-loop
 mul-list-4 c = search needs
 
 slice-write-list-2 : tie.Need-slice-write-list-2 Inv-loop μ-loop
-slice-write-list-2 c =
-    let l = c .before .before .before .before .loop in
-    omega (arith, l .inv .1, length-set (l .list) (l .i * recordWidth) (getD (c .record-numbers .result) 0 0), c .before .before .before .loop-test .taken)
+slice-write-list-2 c = simp length-set (search needs)
+
+array-read-list-3 : tie.Need-array-read-list-3 Inv-loop μ-loop
+array-read-list-3 c = search needs
+
+mul-list-5 : tie.Need-mul-list-5 Inv-loop μ-loop
+mul-list-5 c = search needs
+
+add-list-2 : tie.Need-add-list-2 Inv-loop μ-loop
+add-list-2 c = search needs
+
+mul-list-6 : tie.Need-mul-list-6 Inv-loop μ-loop
+mul-list-6 c = search needs
+
+slice-write-list-3 : tie.Need-slice-write-list-3 Inv-loop μ-loop
+slice-write-list-3 c = simp length-set (search needs)
 
 add-i : tie.Need-add-i Inv-loop μ-loop
 add-i c = search needs
@@ -76,10 +94,10 @@ loop-less c = search needs
 
 loop-again : tie.Need-loop-again Inv-loop μ-loop
 loop-again c =
-    let l = c .before .before .before .before .loop in (
+    let l = c .before .before .before .before .before .loop in (
       search needs,
-      length-set (set (l .list) (l .i * recordWidth) (getD (c .record-numbers .result) 0 0)) (l .i * recordWidth + 1) _ ∙ length-set (l .list) (l .i * recordWidth) _ ∙ l .inv .1,
-      l .inv .2 ∙ listed-turn _ _ (l .list) _ (l .i) (c .before .before .before .loop-test .taken) (c .record-numbers .ensures),
+      simp length-set (l .inv .1),
+      l .inv .2 ∙ listed-turn _ _ (l .list) _ (l .i) (c .before .before .before .before .loop-test .taken) (c .record-numbers .ensures),
     )
 
 same-length : tie.Need-same-length Inv-loop μ-loop
@@ -101,6 +119,8 @@ list-sectors-spec =
     element-copy-out-answered
     mul-place
     element-copy-out-place
+    mul-clocks
+    element-copy-out-clocks
     record-numbers-requires
     array-read-list
     mul-list
@@ -111,6 +131,11 @@ list-sectors-spec =
     add-list
     mul-list-4
     slice-write-list-2
+    array-read-list-3
+    mul-list-5
+    add-list-2
+    mul-list-6
+    slice-write-list-3
     add-i
     loop-less
     loop-again

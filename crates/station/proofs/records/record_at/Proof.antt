@@ -1,11 +1,11 @@
 -- `record_at` meets its contract: the sector's part of the numbers, or none.
-use mathlib.Core.Path.{sym, ap, ap₂, _∙_}
-use Prim.Native.Nat.{ℕ, _+_, _-_, _*_, _≤_}
+use mathlib.Core.Path.{refl, sym, ap, _∙_}
+use Prim.Native.Nat.{_+_, _-_, _*_, _≤_}
 use native.Mathlib.Omega.{arith}
 use denote.Ref.{now}
 use Rattle.layouts.specs.Layouts.{mostSectors}
 use Rattle.answers.specs.Answers.{answerOf}
-use Rattle.answers.specs.declared.Answer.{Answer}
+use Rattle.answers.proofs.Fields.{same-record}
 use Rattle.station.specs.Records.{recordWidth, numberedRecord}
 use Rattle.station.proofs.Listing.{slot-number, slot-past}
 use borrow.Author.Needs.{needs}
@@ -36,19 +36,32 @@ mul-place-2 c = search needs
 shared-slice-read-place : tie.Need-shared-slice-read-place
 shared-slice-read-place c = search needs
 
+mul-clocks : tie.Need-mul-clocks
+mul-clocks c = search needs
+
+add-clocks : tie.Need-add-clocks
+add-clocks c = search needs
+
+mul-clocks-2 : tie.Need-mul-clocks-2
+mul-clocks-2 c = search needs
+
+shared-slice-read-clocks : tie.Need-shared-slice-read-clocks
+shared-slice-read-clocks c = search needs
+
 answer-of-requires : tie.Need-answer-of-requires
 answer-of-requires c κs = search needs
 
 returns : tie.Need-returns
 returns c =
-    let found = c .before .before .before .before in
+    let found = c .before .before .before .before .before in
     let a = found .before .before .args in
     let list = now (a .list) in
     let at = (a .sector - 1) * recordWidth in
     let index = found .index-of .result * recordWidth in
     let number = slot-number recordWidth 0 at index list (omega arith) (omega (arith, found .index-of .ensures)) in
     let place = slot-number recordWidth 1 at (index + 1) list (omega arith) (omega (arith, found .index-of .ensures)) in
-    ap₂ (λ (x : Answer) (p : ℕ). record { answer = x; place = p }) (c .answer-of .ensures ∙ ap answerOf number) place
+    let clocks = slot-number recordWidth 2 at (index + 2) list (omega arith) (omega (arith, found .index-of .ensures)) in
+    same-record (c .answer-of .ensures ∙ ap answerOf number) place clocks
 
 answer-of-requires-2 : tie.Need-answer-of-requires-2
 answer-of-requires-2 c κs = search needs
@@ -58,7 +71,7 @@ returns-2 c =
     let found = c .before .before in
     let begun = found .before .before in
     let past : mostSectors ≤ begun .args .sector - 1 = omega (arith, found .index-of .ensures, c .before .if1 .left) in
-    ap (λ (x : Answer). record { answer = x; place = 0 }) (c .answer-of2 .ensures)
+    same-record (c .answer-of2 .ensures) refl refl
     ∙ sym (ap numberedRecord (slot-past (begun .args .sector) (now (begun .args .list)) (begun .pre) past))
 
 pub record-at-spec : {M : Type 1} → statement M
@@ -73,6 +86,10 @@ record-at-spec =
     add-place
     mul-place-2
     shared-slice-read-place
+    mul-clocks
+    add-clocks
+    mul-clocks-2
+    shared-slice-read-clocks
     answer-of-requires
     returns
     answer-of-requires-2
