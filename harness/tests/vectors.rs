@@ -7,7 +7,7 @@ use harness::reference::flux_track::{flux_track, flux_track_by};
 use harness::reference::{annex, edc, plain, plain_file, plain_flux, read};
 use harness::rng::Rng;
 use harness::station::{self, Sections};
-use harness::tally::met::{Row, ANSWERS};
+use harness::tally::met::{Row, ANSWERS, OF_WHOLE};
 use harness::tally::Tally;
 use std::collections::BTreeSet;
 use std::fs;
@@ -22,7 +22,7 @@ fn kept_vectors() {
     let folder = folder();
     let index = fs::read_to_string(folder.join("INDEX")).expect("the list of vectors");
     let mut tally = Tally::new("read", "kept vectors");
-    let mut answers = BTreeSet::new();
+    let (mut answers, mut with_clocks) = (BTreeSet::new(), BTreeSet::new());
     for line in index.lines() {
         let place = folder.join(&line[..4]);
         let input = fs::read(place.with_extension("in")).expect("a vector's input");
@@ -38,10 +38,14 @@ fn kept_vectors() {
         for record in records.lines().filter(|record| !record.starts_with("refused")) {
             let numbers: Vec<u32> = record.split(' ').map(|number| number.parse().expect("a number")).collect();
             answers.insert(numbers[1]);
+            if numbers[3] > 0 {
+                with_clocks.insert(numbers[1]);
+            }
         }
         tally.input();
     }
     assert!(answers.into_iter().eq(ANSWERS.map(u32::from)), "the answers of the kept vectors");
+    assert!(with_clocks.into_iter().eq(OF_WHOLE.map(u32::from)), "their answers with doubtful clocks");
     tally.report();
 }
 

@@ -1,4 +1,5 @@
 //! Reading: the reference against a literal reader, and `station_read` against the reference.
+mod clocks;
 mod damaged;
 mod letters;
 mod literal;

@@ -156,6 +156,26 @@ fn h7_the_callers_cylinder() {
 }
 
 #[test]
+fn j1_the_sum_of_a_whole_block() {
+    spring("J1", 18);
+}
+
+#[test]
+fn j2_the_bit_before_is_the_found_marks_last() {
+    spring("J2", 24);
+}
+
+#[test]
+fn j3_which_clocks_count() {
+    spring("J3", 4);
+}
+
+#[test]
+fn j4_a_rewrite_under_way() {
+    spring("J4", 8);
+}
+
+#[test]
 fn every_trap_has_a_test() {
-    assert_eq!(all().len(), 201);
+    assert_eq!(all().len(), 255);
 }

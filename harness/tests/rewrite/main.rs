@@ -1,6 +1,7 @@
 //! Rewriting: the reference against the papers' list of stores, and `station_request` and `station_step` against the
 //! reference, step by step.
 mod changed;
+mod clocks;
 mod cuts;
 mod damaged;
 mod facts;

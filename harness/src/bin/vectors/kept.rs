@@ -1,5 +1,5 @@
 //! The kept vectors. They are the same whenever they are written.
-use crate::{letters, Vector};
+use crate::{clocks, letters, Vector};
 use harness::rng::Rng;
 use harness::tracks::damage::{damage, false_beginnings, image_of, shifted};
 use harness::tracks::sketch::*;
@@ -24,6 +24,7 @@ pub fn all() -> Vec<Vector> {
         noise(rng),
         // what came later stands behind all that was there, which so keeps its numbers
         letters::all(),
+        clocks::all(),
     ];
     groups.into_iter().flatten().collect()
 }

@@ -3,6 +3,7 @@
 //! program does not print in full. FOLDER/vectors/EDC has runs of bytes, each behind its EDC, FOLDER/vectors/files has files
 //! of read cartridges, with what the reading answers in its INDEX, and FOLDER/vectors/flux has captures for the program that
 //! turns them into tracks.
+mod clocks;
 mod files;
 mod flux;
 mod kept;

@@ -59,7 +59,7 @@ fn worn(image: &[u8]) -> Vec<u8> {
     // a data cell in the block of sector 2, and one in the EDC of sector 7
     turn(&mut worn, cell(2, |(_, data)| data + 8 + 600) + 5);
     turn(&mut worn, cell(7, |(_, data)| data + 8 + 2 * 1_024) + 3);
-    // clock cells in the block of sector 3 do not matter
+    // clock cells in the block of sector 3 do not matter to its answer
     turn(&mut worn, cell(3, |(_, data)| data + 8 + 77));
     turn(&mut worn, cell(3, |(_, data)| data + 8 + 79) + 2);
     // the data mark of sector 4, and the address of sector 6

@@ -1,5 +1,6 @@
 //! Traps that the papers lay for a reader: small tracks, each with the outcome that 01 and 02 want, worked out by hand.
 mod blocks;
+mod clocks;
 mod identifiers;
 mod letters;
 mod searches;
@@ -33,7 +34,7 @@ pub struct Trap {
 
 /// All of them.
 pub fn all() -> Vec<Trap> {
-    [of_01(), of_letters()].into_iter().flatten().collect()
+    [of_01(), of_letters(), of_clocks()].into_iter().flatten().collect()
 }
 
 /// Those that are in 01 already.
@@ -44,6 +45,11 @@ pub fn of_01() -> Vec<Trap> {
 /// Those of 02, request 04, each on all tracks that have it, one after the other.
 pub fn of_letters() -> Vec<Trap> {
     letters::all()
+}
+
+/// Those of 02, request 06, each in both modes.
+pub fn of_clocks() -> Vec<Trap> {
+    clocks::all()
 }
 
 impl Trap {
