@@ -22,7 +22,7 @@ static void damaged(const struct track *track) {
     struct expected expected;
     fresh(track, data, marks, image);
     expected = whole(track, data, marks);
-    /* a data cell of 2; a clock cell of 1, which does not matter */
+    /* a data cell of 2; a clock cell of 1, which does not matter to the answer */
     turn(image, 8 * (mark_of(track, 2) + mark) + 3);
     gives(&expected, track, 2, STATION_ANSWER_WRONG_EDC, place_of(track, 2));
     turn(image, 8 * (mark_of(track, 1) + mark) + 2);

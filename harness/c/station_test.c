@@ -152,10 +152,12 @@ int main(void) {
     format_test();
     read_test();
     letter_test();
+    clock_test();
     pick_test();
     request_test();
     step_test();
     cut_test();
+    clock_cut_test();
     empty_test();
     size_test();
     file_test();
