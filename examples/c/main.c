@@ -84,15 +84,33 @@ static void show_refused(size_t sector, struct station_record record, uint32_t c
     /* no scratch: the record is whole, but some station wrote what may not stand there */
     if (record.answer == STATION_ANSWER_FORBIDDEN_LETTER)
         printf("; not allowed on cylinder 0, report it");
-    printf("\n");
+}
+
+/*
+ * A sector's doubtful clocks, if it has some. They change no answer, but where it can still be used they are the first sign that the cartridge wears
+ * out. In a planned defect, and where a rewrite was cut off, they say nothing of that.
+ */
+static void show_clocks(struct station_record record) {
+    const char *means = "";
+    if (record.clocks == 0)
+        return;
+    if (record.answer == STATION_ANSWER_DATA || record.answer == STATION_ANSWER_CONTROL)
+        means = ", copy the cartridge now";
+    else if (record.answer == STATION_ANSWER_DEFECTIVE)
+        means = ", no sign of wear in a defect";
+    else if (record.answer == STATION_ANSWER_OPEN_MARK)
+        means = ", no sign of wear in a rewrite that was cut off";
+    printf("; %u doubtful clock%s%s", (unsigned)record.clocks, record.clocks == 1 ? "" : "s", means);
 }
 
 static void show_sector(size_t sector, struct station_record record, const uint8_t *slot, uint32_t cells_of_a_turn) {
     const char *means = record.answer == STATION_ANSWER_DEFECTIVE ? "is a planned defect, copy it as such" : "can be used";
     if (has_bytes(record.answer))
-        printf("sector %u %s: answer %u, first byte %02X\n", (unsigned)sector, means, (unsigned)record.answer, slot[0]);
+        printf("sector %u %s: answer %u, first byte %02X", (unsigned)sector, means, (unsigned)record.answer, slot[0]);
     else
         show_refused(sector, record, cells_of_a_turn);
+    show_clocks(record);
+    printf("\n");
 }
 
 /* All answers in a byte each, and in `data`, one after the other, the slots that come with bytes. Gives how many bytes these are. */

@@ -20,8 +20,10 @@ mod station;
 use station::{FluxResult, Layout, Reading, Record, Sections};
 use station::{DATA_MARK, LAYOUTS, LONGEST_FILE, LONGEST_IMAGE, NO_PLACE};
 
-/// Answers to which a bench does something of its own: a planned defect, and on cylinder 0 a letter that may not stand there.
+/// Answers to which a bench does something of its own: a planned defect, a rewrite that was cut off, and on cylinder 0 a
+/// letter that may not stand there.
 const DEFECTIVE: u32 = 3;
+const OPEN_MARK: u32 = 25;
 const FORBIDDEN_LETTER: u32 = 27;
 
 /// The refusal that tells of an interval.
@@ -107,7 +109,23 @@ fn show_refused(out: &mut impl Write, sector: usize, record: Record, cells_of_a_
     if record.answer == FORBIDDEN_LETTER {
         write!(out, "; not allowed on cylinder 0, report it")?;
     }
-    writeln!(out)
+    Ok(())
+}
+
+/// A sector's doubtful clocks, if it has some. They change no answer, but where it can still be used they are the first
+/// sign that the cartridge wears out. In a planned defect, and where a rewrite was cut off, they say nothing of that.
+fn show_clocks(out: &mut impl Write, record: Record) -> io::Result<()> {
+    let means = match record.answer {
+        1 | 2 => ", copy the cartridge now",
+        DEFECTIVE => ", no sign of wear in a defect",
+        OPEN_MARK => ", no sign of wear in a rewrite that was cut off",
+        _ => "",
+    };
+    match record.clocks {
+        0 => Ok(()),
+        1 => write!(out, "; 1 doubtful clock{means}"),
+        clocks => write!(out, "; {clocks} doubtful clocks{means}"),
+    }
 }
 
 fn show_sector(
@@ -119,10 +137,12 @@ fn show_sector(
 ) -> io::Result<()> {
     let means = if record.answer == DEFECTIVE { "is a planned defect, copy it as such" } else { "can be used" };
     if has_bytes(record.answer) {
-        writeln!(out, "sector {sector} {means}: answer {}, first byte {:02X}", record.answer, slot[0])
+        write!(out, "sector {sector} {means}: answer {}, first byte {:02X}", record.answer, slot[0])?;
     } else {
-        show_refused(out, sector, record, cells_of_a_turn)
+        show_refused(out, sector, record, cells_of_a_turn)?;
     }
+    show_clocks(out, record)?;
+    writeln!(out)
 }
 
 /// What was read of the captured track, as a file for another bench: all answers, and one after the other the slots that
