@@ -115,6 +115,9 @@ def main():
     for path in files(".antt", ".rt", ".edit"):
         text = read(path)
         theirs = foreign(text)
+        if not path.endswith(".antt"):
+            # of src/ only what no name of the code can be
+            theirs |= {n for n in table if re.fullmatch(r"[a-z0-9_]+", n)}
         out = []
         for line in text.split("\n"):
             out.append(TOKEN.sub(lambda m: turn(m, table, theirs), line))

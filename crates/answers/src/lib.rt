@@ -1,5 +1,6 @@
 // What a sector answers, where its mark is and how many of its clock cells are doubtful: its record; the numbers that the papers give the answers,
 // and what a whole block answers.
+#![tactic(auto)]
 ghost use Rattle.std.specs.Prelude.{◌≡◌, eqb};
 ghost use Rattle.marks.specs.Marks.{mark_byte};
 ghost use Rattle.marks.specs.declared.Mark.TheVariants.{Control};
@@ -10,7 +11,7 @@ use layouts::MOST_SECTORS;
 use marks::Mark;
 
 // Why a sector is refused, in the order of the papers' numbers 21 to 27.
-#[derive(Drop)]
+#[derive(Clone, Copy)]
 pub enum Fault {
     // no accepted identifier
     NoIdentifier,
@@ -29,7 +30,7 @@ pub enum Fault {
 }
 
 // What a sector answers. (Refused stands first: what the logic reads past an array's end is each enum's first case.)
-#[derive(Drop)]
+#[derive(Clone, Copy)]
 pub enum Answer {
     // the slot is all zero
     Refused(Fault),
@@ -48,7 +49,7 @@ pub const LETTER_F: u8 = 0x46;
 pub const NO_PLACE: u32 = 4294967295;
 
 // What is known of one sector.
-#[derive(Drop)]
+#[derive(Clone, Copy)]
 pub struct Record {
     pub answer: Answer,
     // the cell at which its data, control or open mark begins; NO_PLACE for 21, 22 and 23
@@ -58,14 +59,14 @@ pub struct Record {
 }
 
 // What one sector answers, where the answers of all stand in a list.
-#[derive(Drop)]
+#[derive(Clone, Copy)]
 pub struct Answered {
     pub answer: Answer,
 }
 
 // The records of a track, by sector number, from 1 on: a list for each field of a record. So they are filled and copied as words; between the
 // fields of 26 records there would be bytes of no use, and each field would be moved by itself.
-#[derive(Drop)]
+#[derive(Clone, Copy)]
 pub struct Records {
     pub answers: [Answered; MOST_SECTORS],
     pub places: [u32; MOST_SECTORS],

@@ -1,5 +1,6 @@
 // Why a call is refused, with the numbers of the papers, and the tests that several calls share. A function that tests a call is named after
 // what it tests; the tests stand in the order of the papers, and the first that applies gives the refusal.
+#![tactic(auto)]
 ghost use Rattle.calls.specs.Outcomes.{IsRefusalNumber, IsCheckedNumber, IsTested};
 ghost use Rattle.calls.specs.Outcomes.{IsImageLength, IsAreaLength, IsMarkByte, IsControlRecord, IsSectorNumber};
 
@@ -12,7 +13,7 @@ pub const LONGEST_IMAGE: usize = 24576;
 pub const LETTER_D: u8 = 0x44;
 
 // Why a call is refused, in the order of the papers' numbers.
-#[derive(Drop)]
+#[derive(Clone, Copy)]
 pub enum Refusal {
     // image length: read and rewrite 1 to LONGEST_IMAGE bytes; format the table's value
     ImageLength,
@@ -43,7 +44,7 @@ pub enum Refusal {
 }
 
 // The answer of a function that tests a call.
-#[derive(Drop)]
+#[derive(Clone, Copy)]
 pub enum Checked {
     // no test applies
     Passed,

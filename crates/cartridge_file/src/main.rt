@@ -1,5 +1,6 @@
 // Prints what a file of a read cartridge holds, from the standard input: its label, a line for each track with the answers of its sectors, and how much
 // there is of each. The data are counted only, so a file may be longer than what is kept of it.
+#![tactic(auto)]
 ghost use Rattle.std.specs.Prelude.{◌+◌, ◌≤◌, max, length};
 
 use file::{Judged, Section, Sections, TRACK_WIDTH};

@@ -1,5 +1,6 @@
 // The cells of an image: eight to a byte, most significant first, what eight and sixteen of them hold, and which clock cells are doubtful.
 // Every function takes any place: past the image's end cells are 0.
+#![tactic(auto)]
 ghost use Rattle.std.specs.Prelude.{◌≡◌, ◌+◌, ◌-◌, ◌*◌, ◌/◌, ◌%◌, ◌^◌, ◌<◌, ◌≤◌, length, ◌≢◌, slice_index};
 ghost use Rattle.cells.specs.Cells.{cell, byte_of, octet};
 ghost use Rattle.cells.specs.Aids.{ruled, right_clocks};
@@ -8,14 +9,14 @@ ghost use Rattle.cells.specs.Outcomes.{IsOctet, IsDataByte, IsReadByte, AreReadB
 mod runs;
 
 // The two modes of recording (004, 4.1).
-#[derive(Drop)]
+#[derive(Clone, Copy)]
 pub enum Mode {
     Fm,
     Mfm,
 }
 
 // What reading one byte tells.
-#[derive(Drop)]
+#[derive(Clone, Copy)]
 pub struct ReadByte {
     pub byte: u8,
     // how many of its eight clock cells are doubtful: not those of the mode's rule
@@ -23,7 +24,7 @@ pub struct ReadByte {
 }
 
 // What reading bytes into an area tells besides them.
-#[derive(Drop)]
+#[derive(Clone, Copy)]
 pub struct ReadBytes {
     // how many of their clock cells are doubtful
     pub clocks: u32,

@@ -1,4 +1,5 @@
 // How a data byte is coded in sixteen cells.
+#![tactic(auto)]
 ghost use Rattle.std.specs.Prelude.{◌≡◌, ◌+◌, ◌*◌};
 ghost use Rattle.coding.specs.Coding.{high, low};
 ghost use Rattle.coding.specs.Outcomes.{IsCoded};
@@ -6,7 +7,7 @@ ghost use Rattle.coding.specs.Outcomes.{IsCoded};
 use cells::Mode;
 
 // The two image bytes of a data byte.
-#[derive(Drop)]
+#[derive(Clone, Copy)]
 pub struct Pair {
     pub first: u8,
     pub second: u8,

@@ -1,4 +1,5 @@
 // Prints what a track holds: layout, cylinder and side, one byte each, and then the image, from the standard input.
+#![tactic(auto)]
 ghost use Rattle.std.specs.Prelude.{◌≤◌};
 
 use answers::Records;

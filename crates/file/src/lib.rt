@@ -1,5 +1,6 @@
 // The file of a read cartridge: label, tracks, answers and data, in four sections. A file is judged from its first byte on; a function of its own
 // judges the part before the data, so that a reader of many files need not hold one whole.
+#![tactic(auto)]
 ghost use Rattle.std.specs.Prelude.{length};
 ghost use Rattle.file.specs.Outcomes.{IsRefusalNumber, IsHead, IsWhole, IsRead, Writes};
 
@@ -21,7 +22,7 @@ pub const TRACK_WIDTH: usize = 3;
 pub const COUNT_WIDTH: usize = 4;
 
 // Why a file is not read or not written, in the order of the papers' numbers 31 to 36.
-#[derive(Drop)]
+#[derive(Clone, Copy)]
 pub enum Refusal {
     // a count or a section passes the end
     PastEnd,
@@ -38,7 +39,7 @@ pub enum Refusal {
 }
 
 // Where a section is.
-#[derive(Drop)]
+#[derive(Clone, Copy)]
 pub struct Section {
     // its first byte, past the count
     pub place: u32,
@@ -47,7 +48,7 @@ pub struct Section {
 }
 
 // Where the four sections are.
-#[derive(Drop)]
+#[derive(Clone, Copy)]
 pub struct Sections {
     pub label: Section,
     pub tracks: Section,
@@ -56,14 +57,14 @@ pub struct Sections {
 }
 
 // What comes of a file that is judged.
-#[derive(Drop)]
+#[derive(Clone, Copy)]
 pub enum Judged {
     Found(Sections),
     Refused(Refusal),
 }
 
 // What comes of a file that is to be written.
-#[derive(Drop)]
+#[derive(Clone, Copy)]
 pub enum Written {
     // the bytes of the file
     File(u32),
@@ -71,21 +72,21 @@ pub enum Written {
 }
 
 // What a section asks of the next: so many elements; or it is wrong itself.
-#[derive(Drop)]
+#[derive(Clone, Copy)]
 enum Asked {
     Asks(usize),
     Wrong,
 }
 
 // What a test of what is to be written says.
-#[derive(Drop)]
+#[derive(Clone, Copy)]
 enum Tested {
     Passed,
     Refused(Refusal),
 }
 
 // What comes of one section.
-#[derive(Drop)]
+#[derive(Clone, Copy)]
 enum Opened {
     Section(Section),
     Refused(Refusal),

@@ -25,7 +25,7 @@ fn put_section(width: usize, held: &[u8], area: &mut [u8], at: usize) -> usize
     put_count(held.len() / width, area, at);
     let from = at + COUNT_WIDTH;
     let end = from + held.len();
-    bytes::copy(held, &mut area[from..end]);
+    area[from..end].copy_from_slice(held);
     end
 }
 

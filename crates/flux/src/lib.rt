@@ -1,5 +1,6 @@
 // Flux timings: a capture is the time stamps of a track's flux transitions, from a counter of 32 bits that runs over, and gives the cells of the track.
 // The speed is followed over the last eight intervals.
+#![tactic(auto)]
 ghost use Rattle.std.specs.Prelude.{length};
 ghost use Rattle.flux.specs.Outcomes.{IsRefusalNumber, IsIntervalNumber, Lays};
 
@@ -13,7 +14,7 @@ pub const LEAST_TICKS: u32 = 16;
 pub const MOST_TICKS: u32 = 1024;
 
 // Why a capture gives no cells, in the order of the papers' numbers 41 to 44.
-#[derive(Drop)]
+#[derive(Clone, Copy)]
 pub enum Refusal {
     // the ticks of a nominal cell are out of range
     TicksNumber,
@@ -26,7 +27,7 @@ pub enum Refusal {
 }
 
 // What comes of a capture.
-#[derive(Drop)]
+#[derive(Clone, Copy)]
 pub enum Laid {
     // the number of cells
     Cells(u64),

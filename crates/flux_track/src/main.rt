@@ -1,5 +1,6 @@
 // Makes an image of a capture, and writes what dump reads. The input has the track's layout, cylinder and side, one byte each, the ticks of a nominal
 // cell, and the stamps of the flux transitions; ticks and stamps have four bytes each, most significant first.
+#![tactic(auto)]
 ghost use Rattle.std.specs.Prelude.{◌≡◌, ◌+◌, ◌*◌, ◌≤◌, length};
 
 use calls::LONGEST_IMAGE;

@@ -90,7 +90,7 @@ fn write_checked(mode: Mode, mark: Mark, contents: &[u8], area: &mut [u8], at: u
     ensures bit { result ≡ edc_of (covered mode mark ++ contents.now) % 2 }
 {
     let register = edc::bytes_entered(marks::register_after(mode, mark), contents);
-    let mut last = marks::last_bit_lem(mark);
+    let mut last = marks::last_bit(mark);
     let mut i = 0;
     while i < contents.len() {
         let byte = contents[i];

@@ -1,5 +1,6 @@
 // The layouts of a track, which track takes which, and the tests of a track's numbers. A layout is a value made of its type's constants, and a
 // track a layout with its place on the disk.
+#![tactic(auto)]
 ghost use Rattle.std.specs.Prelude.{◌≡◌};
 ghost use Rattle.layouts.specs.Tracks.{allowed};
 ghost use Rattle.layouts.specs.Outcomes.{IsGapByte, IsLayoutOf, IsTrack, IsLayoutNumber, IsTrackNumbers, IsTrackAndImage};
@@ -28,7 +29,7 @@ pub const HIGHEST_CYLINDER: u32 = 74;
 pub const HIGHEST_SIDE: u32 = 1;
 
 // A layout's constants. Gaps and track are counted in data bytes, which take two image bytes each.
-#[derive(Drop)]
+#[derive(Clone, Copy)]
 pub struct Layout {
     // the mode of recording
     pub mode: Mode,
@@ -59,7 +60,7 @@ pub struct Layout {
 }
 
 // A track, as a call names it.
-#[derive(Drop)]
+#[derive(Clone, Copy)]
 pub struct Track {
     // its layout
     pub layout: Layout,

@@ -8,7 +8,7 @@ use super::Layout;
 use cells::Mode;
 
 // What clause 5 of 004 gives to each of its layouts: FM.
-#[derive(Drop)]
+#[derive(Clone, Copy)]
 struct Fm {}
 
 impl Fm {
@@ -32,7 +32,7 @@ impl Fm {
 }
 
 // What clause 6 of 004 gives to each of its layouts: MFM.
-#[derive(Drop)]
+#[derive(Clone, Copy)]
 struct Mfm {}
 
 impl Mfm {
@@ -56,7 +56,7 @@ impl Mfm {
 }
 
 // Layout 0: FM, the track 00 of side 0.
-#[derive(Drop)]
+#[derive(Clone, Copy)]
 pub struct Layout0 {}
 
 impl Layout0 {
@@ -116,7 +116,7 @@ impl Layout0 {
 }
 
 // Layout 1: MFM, 26 sectors of 256 data bytes.
-#[derive(Drop)]
+#[derive(Clone, Copy)]
 pub struct Layout1 {}
 
 impl Layout1 {
@@ -176,7 +176,7 @@ impl Layout1 {
 }
 
 // Layout 2: MFM, 15 sectors of 512 data bytes.
-#[derive(Drop)]
+#[derive(Clone, Copy)]
 pub struct Layout2 {}
 
 impl Layout2 {
@@ -236,7 +236,7 @@ impl Layout2 {
 }
 
 // Layout 3: MFM, 8 sectors of 1 024 data bytes.
-#[derive(Drop)]
+#[derive(Clone, Copy)]
 pub struct Layout3 {}
 
 impl Layout3 {

@@ -1,4 +1,5 @@
 // Where a sector's block is: the walk over a track, for the sake of one sector.
+#![tactic(auto)]
 ghost use Rattle.locate.specs.Outcomes.{Locates};
 
 use calls::{Checked, Refusal};
@@ -8,7 +9,7 @@ mod locating;
 mod refusals;
 
 // Where a sector's block is.
-#[derive(Drop)]
+#[derive(Clone, Copy)]
 pub enum Located {
     // no identifier of the sector is accepted
     Unmet,

@@ -23,7 +23,7 @@ fn located_next(before: Located, block: Block) -> Located
 }
 
 // The same, once the walk has met an event more.
-fn located_after_lem(sector: usize, before: Located, event: Event) -> Located
+fn located_after(sector: usize, before: Located, event: Event) -> Located
     ensures { result ≡ located_after sector before event }
 {
     match event {
@@ -53,7 +53,7 @@ pub(crate) fn locate_block(track: Track, sector: usize, image: &[u8]) -> Located
                 at = end;
             }
             Round::Meets(event, next) => {
-                found = located_after_lem(sector, found, event);
+                found = located_after(sector, found, event);
                 at = next;
             }
         }

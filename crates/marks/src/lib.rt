@@ -1,5 +1,6 @@
 // The marks of a track: fixed strings of image bytes, compared at any cell, and all that is known of one: its width, its last byte and
 // bit, and the register of the EDC behind it.
+#![tactic(auto)]
 ghost use Rattle.std.specs.Prelude.{◌≡◌, ◌+◌, ◌*◌, ◌≤◌, length};
 ghost use Rattle.cells.specs.Cells.{cell};
 ghost use Rattle.cells.specs.declared.Mode.TheVariants.{Fm, Mfm};
@@ -9,7 +10,7 @@ ghost use Rattle.marks.specs.Outcomes.{Housed, IsString, AreMarkBytes, IsLastByt
 use cells::Mode;
 
 // The marks: FC, FE, FB, F8, and the house mark F9 of a rewrite under way.
-#[derive(Drop)]
+#[derive(Clone, Copy)]
 pub enum Mark {
     Index,
     Identifier,
@@ -91,7 +92,7 @@ pub fn last_byte(mode: Mode, mark: Mark) -> u8
 }
 
 // The last bit of a mark: the last cell of its string, which is a data cell.
-pub fn last_bit_lem(mark: Mark) -> u8
+pub fn last_bit(mark: Mark) -> u8
     ensures { IsLastBit mark result }
 {
     fm_string(mark)[1] % 2

@@ -1,4 +1,5 @@
 // The pick of a sector from two passes over one track.
+#![tactic(auto)]
 ghost use Rattle.pick.specs.Picks.{IsChosen, IsPicked, IsStretch};
 
 use answers::{Record, Records};
@@ -8,7 +9,7 @@ mod passes;
 mod refusals;
 
 // What a pick from two passes takes, with the record that goes with it.
-#[derive(Drop)]
+#[derive(Clone, Copy)]
 pub enum Choice {
     // the first pass's sector
     First(Record),

@@ -16,7 +16,7 @@ use marks::Mark;
 use walk::Block;
 
 // What decoding a block says besides its bytes: the two of the EDC behind them, and how many clock cells of them all are doubtful.
-#[derive(Drop)]
+#[derive(Clone, Copy)]
 struct Decoded {
     high: u8,
     low: u8,
@@ -24,7 +24,7 @@ struct Decoded {
 }
 
 // What a block says of its sector besides the slot.
-#[derive(Drop)]
+#[derive(Clone, Copy)]
 struct Told {
     answer: Answer,
     clocks: u32,
@@ -35,7 +35,7 @@ fn decode(mode: Mode, mark: Mark, image: &[u8], place: usize, slot: &mut [u8]) -
     requires { (place + 16 * length slot.old ≤ 4294967296) × (1 ≤ length slot.old) }
     ensures { Decodes mode mark (cell image.now) place (length slot.old) result.high result.low result.clocks slot.new }
 {
-    let read = cells::read_bytes(mode, marks::last_bit_lem(mark), image, place, slot);
+    let read = cells::read_bytes(mode, marks::last_bit(mark), image, place, slot);
     let end = place + 16 * slot.len();
     let high = cells::read_byte(mode, slot[slot.len() - 1] % 2, image, end);
     let low = cells::read_byte(mode, high.byte % 2, image, end + 16);

@@ -1,4 +1,5 @@
 // The reader: what a track's image holds, sector by sector. What can't be read is reported.
+#![tactic(auto)]
 ghost use Rattle.std.specs.Prelude.{length};
 ghost use Rattle.read.specs.Outcomes.{Reads};
 
@@ -10,7 +11,7 @@ mod refusals;
 mod tracks;
 
 // What a read hands back.
-#[derive(Drop)]
+#[derive(Clone, Copy)]
 pub struct Reading {
     // whether the call was refused; then no record holds data, and the counts are 0
     pub verdict: Checked,

@@ -1,4 +1,5 @@
 // The request for the rewrite of a sector: a plan that notes where its block is, by which the steps then make their stores.
+#![tactic(auto)]
 ghost use Rattle.request.specs.Outcomes.{Requests};
 
 use calls::{Checked, Refusal};
@@ -7,7 +8,7 @@ use rewrite::Plan;
 mod refusals;
 
 // What a request answers.
-#[derive(Drop)]
+#[derive(Clone, Copy)]
 pub enum Requested {
     // the block is found, and no store is made yet
     Planned(Plan),

@@ -1,5 +1,6 @@
 // The rewrite of a sector's block, one store at a time, so that one that is cut off anywhere leaves every other sector as it was. A plan
 // notes the block's place; each step is handed the mark and the bytes again, and trusts nothing of its plan.
+#![tactic(auto)]
 ghost use Rattle.rewrite.specs.Outcomes.{CountsStores, Steps};
 
 use calls::{Checked, Refusal};
@@ -8,7 +9,7 @@ mod refusals;
 mod values;
 
 // A rewrite under way. A step takes any numbers.
-#[derive(Drop)]
+#[derive(Clone, Copy)]
 pub struct Plan {
     // the layout's number
     pub layout: u32,
@@ -19,14 +20,14 @@ pub struct Plan {
 }
 
 // One store: the image byte `byte` becomes `value`.
-#[derive(Drop)]
+#[derive(Clone, Copy)]
 pub struct Store {
     pub byte: usize,
     pub value: u8,
 }
 
 // What a step answers.
-#[derive(Drop)]
+#[derive(Clone, Copy)]
 pub enum Stepped {
     // one store is made, and this is the plan for the next step
     Made(Plan),

@@ -55,7 +55,7 @@ fn bit_before(mark: u8, contents: &[u8], i: usize) -> u8
     ensures { (result ≡ get_or (mark_byte (mark_of mark) ∷ contents.now) i 0 % 2) × (result < 2) }
 {
     if i == 0 {
-        return marks::last_bit_lem(marks::mark_of(mark));
+        return marks::last_bit(marks::mark_of(mark));
     }
     contents[i - 1] % 2
 }

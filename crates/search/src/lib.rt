@@ -1,4 +1,5 @@
 // The search for the first mark of given kinds, and the look whether one begins with a byte.
+#![tactic(auto)]
 ghost use Rattle.marks.specs.Outcomes.{Housed};
 ghost use Rattle.search.specs.Outcomes.{IsMarkAt, IsFirstMark};
 
@@ -9,7 +10,7 @@ mod places;
 mod tables;
 
 // The kinds of mark that a search looks for: identifier marks, and the marks of a block, which are data, control and open.
-#[derive(Drop)]
+#[derive(Clone, Copy)]
 pub struct Kinds {
     pub identifier: bool,
     pub block: bool,
@@ -32,7 +33,7 @@ pub const BLOCK_MARKS: Kinds = Kinds {
 };
 
 // What a search finds: the first such mark, with the cell at which it begins.
-#[derive(Drop)]
+#[derive(Clone, Copy)]
 pub enum Found {
     At(usize, Mark),
     Nothing,

@@ -111,7 +111,7 @@ fn entry(begins: &[u8; 256], image: &[u8], at: usize) -> u8
 }
 
 // A byte before which a mark may begin, and what the table says of it.
-#[derive(Drop)]
+#[derive(Clone, Copy)]
 struct Spot {
     next: usize,
     begins: u8,

@@ -1,4 +1,5 @@
 // The library for C and Rust: thin functions over the crates that own the rules.
+#![tactic(auto)]
 ghost use Rattle.std.specs.Prelude.{◌≡◌, ◌+◌, ◌*◌, length, length as listLength};
 ghost use Rattle.coding.specs.Coding.{high, low};
 ghost use Rattle.cells.specs.declared.Mode.TheVariants.{Fm, Mfm};

@@ -1,11 +1,12 @@
 // What the programs share of their streams: the standard input is read to its end or until the buffer is full, and a stream that fails is told of.
 // What the system answers to a read and a write is tested by bin/test-scripts; no proof speaks of it.
+#![tactic(auto)]
 ghost use Rattle.io.specs.Counts.{IsPrefixLen};
 
 use libc::{STDERR_FILENO, STDIN_FILENO};
 
 // What came of the input.
-#[derive(Drop)]
+#[derive(Clone, Copy)]
 pub struct Input {
     // how many bytes
     pub end: usize,

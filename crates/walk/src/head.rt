@@ -11,7 +11,7 @@ use cells::{Mode, ReadByte};
 use search::{Found, Kinds};
 
 // The lent image, and the cell at which the head stands.
-#[derive(Drop)]
+#[derive(Clone, Copy)]
 struct Head<'a> {
     image: &'a [u8],
     cell: usize,

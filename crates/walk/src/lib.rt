@@ -1,5 +1,6 @@
 // The walk over a track's image: from mark to mark, what each identifier is and which block it claims. The reader keeps what the walk meets,
 // sector by sector; a request looks for the block of one sector.
+#![tactic(auto)]
 ghost use Rattle.marks.specs.Outcomes.{Housed};
 ghost use Rattle.walk.specs.Outcomes.{IsRound};
 
@@ -12,7 +13,7 @@ mod head;
 mod rounds;
 
 // What an accepted identifier gave. A place is the cell at which a block's mark begins.
-#[derive(Drop)]
+#[derive(Clone, Copy)]
 pub enum Block {
     // no data block
     Missing,
@@ -23,7 +24,7 @@ pub enum Block {
 }
 
 // What the walk meets.
-#[derive(Drop)]
+#[derive(Clone, Copy)]
 pub enum Event {
     // an identifier whose EDC is wrong
     Bad,
@@ -34,7 +35,7 @@ pub enum Event {
 }
 
 // What one round of the walk gives.
-#[derive(Drop)]
+#[derive(Clone, Copy)]
 pub enum Round {
     // the walk ends
     Ends,

@@ -13,7 +13,7 @@ use marks::Mark;
 use search::{EITHER_MARKS, Found};
 
 // The four address bytes, and what the six bytes behind the identifier mark tell together.
-#[derive(Drop)]
+#[derive(Clone, Copy)]
 pub(crate) struct Address {
     pub cylinder: u8,
     pub side: u8,
@@ -41,7 +41,7 @@ pub(crate) fn address_at(mode: Mode, image: &[u8], place: usize) -> Address
     requires { place ≤ 4294967296 }
     ensures { AddressAt mode (cell image.now) place result.cylinder result.side result.sector result.fourth result.register result.clocks }
 {
-    let cylinder = byte_at(mode, marks::last_bit_lem(Mark::Identifier), image, place);
+    let cylinder = byte_at(mode, marks::last_bit(Mark::Identifier), image, place);
     let side = byte_at(mode, cylinder.byte % 2, image, place + 16);
     let sector = byte_at(mode, side.byte % 2, image, place + 32);
     let fourth = byte_at(mode, sector.byte % 2, image, place + 48);

@@ -1,0 +1,10 @@
+-- `print_answers` ends: the index goes up to the last answer.
+use Prim.Native.Nat.{◌-◌, ◌≤◌}
+use lib.ListN.{length}
+use Rattle.cartridge_file.proofs.print_answers.Given as goal
+
+abbrev pub invariant-loop-index : goal.invariant-loop-index
+invariant-loop-index l = index ≤ length l.answers
+
+abbrev pub decreases-loop-index : goal.decreases-loop-index
+decreases-loop-index l = length l.answers - index

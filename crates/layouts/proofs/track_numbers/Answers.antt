@@ -1,0 +1,19 @@
+-- `track_numbers` meets its contract: each return follows from the tests that led to it, in their order.
+use borrow.Author.Tests.{lt-ltb, le-ltb}
+use Rattle.verdicts.specs.Tests.{refusal, by}
+use Rattle.calls.specs.Refusals.{told}
+use Rattle.layouts.specs.Refusals.{track_tests}
+use Rattle.layouts.proofs.track_numbers.Goals as goal
+
+pub returns-then-cylinder-gt-HIGHEST_CYLINDER : goal.returns-then-cylinder-gt-HIGHEST_CYLINDER
+unfolding refusal told by track_tests
+returns-then-cylinder-gt-HIGHEST_CYLINDER c = rw (lt-ltb _ _ c.if-cylinder-gt-HIGHEST_CYLINDER.true)
+
+pub returns-then-side-gt-HIGHEST_SIDE : goal.returns-then-side-gt-HIGHEST_SIDE
+unfolding refusal told by track_tests
+returns-then-side-gt-HIGHEST_SIDE c = rw (le-ltb _ _ c.if-cylinder-gt-HIGHEST_CYLINDER.false, lt-ltb _ _ c.if-side-gt-HIGHEST_SIDE.true)
+
+pub returns : goal.returns
+unfolding refusal told by track_tests
+returns c =
+    rw (le-ltb _ _ c.if-cylinder-gt-HIGHEST_CYLINDER.false, le-ltb _ _ c.if-side-gt-HIGHEST_SIDE.false, ← c.is_allowed.ensures) c.tested.ensures

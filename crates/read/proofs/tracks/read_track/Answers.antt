@@ -1,0 +1,162 @@
+-- `read_track` meets its contract: each turn of its loop is a round of the walk.
+use borrow.Author.Rules.{rules}
+use mathlib.Core.Path.{sym, ap, ◌∙◌}
+use Prim.Native.Nat.{◌-◌, ◌*◌, ◌≤◌}
+use native.Mathlib.Omega.{arith}
+use lib.ListN.{length, set, length-replicate}
+use Rattle.cells.specs.Cells.{cell}
+use Rattle.walk.specs.Turns.{Placed}
+use Rattle.answers.specs.Answers.{unanswered}
+use Rattle.read.specs.Turns.{Modest}
+use Rattle.answers.specs.declared.Record.{Record}
+use Rattle.read.proofs.States.{state_start, state_left, state_bad, state_foreign, state_accepted, state_end}
+use Rattle.walk.proofs.Walking.{walk_past, walk_ends, walk_all, turn_left, turn_onward, turn_accepted}
+use Rattle.read.proofs.tracks.read_track.Goals as goal
+
+-- What is known of an accepted identifier: its sector is one of the track's, and its block has a place.
+known : (c : tie.After-event invariant-loop decreases-loop)
+    → let sector = c.in-Accepted.sector in
+    let started = c.args in
+    let l = started.track.layout-1 in
+    let image = started.image.now in
+    (1 ≤ sector) × (sector ≤ l.sectors) × Placed l.mode (cell image) (8 * length image) c.event-1.given.0.1.0 × Modest l
+known c =
+    let few : 8 * length c.args.image.now ≤ 2147483648 = omega (arith, c.requires.0) in
+    let k = turn_accepted _ _ _ _ _ _ _ _ _ c.next_round-round.ensures c.in-Meets.is c.in-Accepted.is few in
+    (k.0, k.1, k.2, c.requires.1)
+
+pub loop-place-init : goal.loop-place-init
+loop-place-init c =
+    let s = c.requires in
+    let unread = c.unread_records-unread.ensures in
+    (search rules, search rules, ap length s.2 ∙ length-replicate _ 0, rw unread (state_start _ _ _ _ _ _ (walk_all _ _ _) s.2))
+
+pub loop-place-preserved-in-Ends : goal.loop-place-preserved-in-Ends
+loop-place-preserved-in-Ends c =
+    let l = c.loop-place in (
+      search rules,
+      omega (arith, l.invariant.0, l.invariant.1),
+      l.invariant.2,
+      state_left _ _ _ l.invariant.3 (walk_ends _ _ _ _ _ c.loop-place-test.true c.next_round-round.ensures c.in-Ends.is),
+    )
+
+pub overflow_sub-known : goal.overflow_sub-known
+overflow_sub-known c =
+    let k = known c in
+    k.0
+
+pub offset_bounds-answers-sector : goal.offset_bounds-answers-sector
+offset_bounds-answers-sector c =
+    let k = known c in
+    omega (arith, k.1, k.3)
+
+pub bounds-answers-sector : goal.bounds-answers-sector
+bounds-answers-sector c =
+    let k = known c in
+    omega (arith, k.0, k.1, k.3)
+
+pub enter-after-requires : goal.enter-after-requires
+enter-after-requires c =
+    let s = c.requires in
+    let k = known c in
+    (s.0, s.1, k.0, k.1, k.2, c.loop-place.invariant.2)
+
+pub overflow_sub-answers : goal.overflow_sub-answers
+overflow_sub-answers c =
+    let k = known c in
+    k.0
+
+pub offset_bounds-answers-sector-in-Accepted : goal.offset_bounds-answers-sector-in-Accepted
+offset_bounds-answers-sector-in-Accepted c =
+    let k = known c in
+    omega (arith, k.1, k.3)
+
+pub bounds-answers-sector-in-Accepted : goal.bounds-answers-sector-in-Accepted
+bounds-answers-sector-in-Accepted c =
+    let k = known c in
+    omega (arith, k.0, k.1, k.3)
+
+pub overflow_sub-places : goal.overflow_sub-places
+overflow_sub-places c =
+    let k = known c in
+    k.0
+
+pub offset_bounds-places-sector : goal.offset_bounds-places-sector
+offset_bounds-places-sector c =
+    let k = known c in
+    omega (arith, k.1, k.3)
+
+pub bounds-places-sector : goal.bounds-places-sector
+bounds-places-sector c =
+    let k = known c in
+    omega (arith, k.0, k.1, k.3)
+
+pub overflow_sub-clocks : goal.overflow_sub-clocks
+overflow_sub-clocks c =
+    let k = known c in
+    k.0
+
+pub offset_bounds-clocks-sector : goal.offset_bounds-clocks-sector
+offset_bounds-clocks-sector c =
+    let k = known c in
+    omega (arith, k.1, k.3)
+
+pub bounds-clocks-sector : goal.bounds-clocks-sector
+bounds-clocks-sector c =
+    let k = known c in
+    omega (arith, k.0, k.1, k.3)
+
+pub loop-place-smaller-in-Bad : goal.loop-place-smaller-in-Bad
+loop-place-smaller-in-Bad c =
+    let o = turn_onward _ _ _ _ _ _ _ _ c.next_round-round.ensures c.in-Meets.is c.in-Bad.is in
+    omega (arith, o.0, o.1)
+
+pub loop-place-preserved-in-Bad : goal.loop-place-preserved-in-Bad
+loop-place-preserved-in-Bad c =
+    let l = c.loop-place in
+    let o = turn_onward _ _ _ _ _ _ _ _ c.next_round-round.ensures c.in-Meets.is c.in-Bad.is in
+    let left = turn_left _ _ _ _ _ _ _ _ c.next_round-round.ensures c.in-Meets.is c.in-Bad.is c.loop-place-test.true in
+    (o.1, omega (arith, o.0, l.invariant.1), l.invariant.2, state_bad _ _ _ l.invariant.3 left)
+
+pub loop-place-smaller-in-Foreign : goal.loop-place-smaller-in-Foreign
+loop-place-smaller-in-Foreign c =
+    let o = turn_onward _ _ _ _ _ _ _ _ c.next_round-round.ensures c.in-Meets.is c.in-Foreign.is in
+    omega (arith, o.0, o.1)
+
+pub loop-place-preserved-in-Foreign : goal.loop-place-preserved-in-Foreign
+loop-place-preserved-in-Foreign c =
+    let l = c.loop-place in
+    let o = turn_onward _ _ _ _ _ _ _ _ c.next_round-round.ensures c.in-Meets.is c.in-Foreign.is in
+    let left = turn_left _ _ _ _ _ _ _ _ c.next_round-round.ensures c.in-Meets.is c.in-Foreign.is c.loop-place-test.true in
+    (o.1, omega (arith, o.0, l.invariant.1), l.invariant.2, state_foreign _ _ _ l.invariant.3 left)
+
+pub loop-place-smaller : goal.loop-place-smaller
+loop-place-smaller c =
+    let o = turn_onward _ _ _ _ _ _ _ _ c.next_round-round.ensures c.in-Meets.is c.in-Accepted.is in
+    omega (arith, o.0, o.1)
+
+pub loop-place-preserved : goal.loop-place-preserved
+loop-place-preserved c =
+    let k = known c in
+    let l = c.loop-place in
+    let o = turn_onward _ _ _ _ _ _ _ _ c.next_round-round.ensures c.in-Meets.is c.in-Accepted.is in
+    let e = c.enter-after in
+    let at = c.in-Accepted.sector - 1 in
+    let left = turn_left _ _ _ _ _ _ _ _ c.next_round-round.ensures c.in-Meets.is c.in-Accepted.is
+    c.loop-place-test.true in (
+      o.1,
+      omega (arith, o.0, l.invariant.1),
+      e.auto.1.1.1.1.1.0 ∙ l.invariant.2,
+      state_accepted _ _ _ l.invariant.3 _ _ unanswered left k.3.1 k.3.2 k.0 k.1
+          (ap (λ (r : Record). set l.answers-1 at (record { answer = r.answer })) e.ensures.0) (ap (λ (r : Record). set l.places-1 at r.place) e.ensures.0)
+          (ap (λ (r : Record). set l.clocks-1 at r.clocks-1) e.ensures.0) e.ensures.1,
+    )
+
+pub shape_of-area : goal.shape_of-area
+shape_of-area c = c.loop-place.invariant.2 ∙ sym (ap length c.requires.2 ∙ length-replicate _ 0)
+
+pub returns : goal.returns
+returns c =
+    let l = c.loop-place in
+    let z = state_end _ _ _ l.invariant.3 (walk_past _ _ _ _ _ c.loop-place-test.false) in
+    (rw (← z.0, ← z.1, ← z.2, ← z.4, ← z.5), z.3)

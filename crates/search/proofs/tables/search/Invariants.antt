@@ -1,0 +1,16 @@
+-- `search` meets its contract: the search from the places before the next byte on finds what the whole search finds.
+use Prim.Native.Nat.{◌-◌, ◌*◌, ◌<◌, ◌≤◌, max}
+use mathlib.Core.Path.{◌≡◌}
+use lib.ListN.{length}
+use Rattle.cells.specs.Cells.{cell}
+use Rattle.search.specs.Search.{first_mark}
+use Rattle.search.proofs.tables.search.Given as goal
+
+abbrev pub invariant-loop-mode : goal.invariant-loop-mode
+invariant-loop-mode l =
+    (0 < l.next)
+    × (l.next ≤ 2305843009213693952)
+    × (first_mark l.mode (cell l.image) (8 * length l.image) l.kinds l.from l.to ≡ first_mark l.mode (cell l.image) (8 * length l.image) l.kinds (max l.from (8 * l.next - 8)) l.to)
+
+abbrev pub decreases-loop-mode : goal.decreases-loop-mode
+decreases-loop-mode l = l.end - l.next

@@ -1,0 +1,21 @@
+-- `slot_part` meets its contract: a slot's numbers are small.
+use mathlib.Core.Path.{ap}
+use native.Mathlib.Omega.{arith}
+use Rattle.layouts.specs.declared.Layout.{Layout}
+use Rattle.station.specs.Picks.{slot_part}
+use Rattle.station.proofs.Picking.{slot_small}
+use Rattle.station.proofs.taken.slot_part.Goals as goal
+
+pub overflow_cast-size : goal.overflow_cast-size
+overflow_cast-size c =
+    let l = c.layout_of-taken.ensures in
+    rw l (omega (arith, (slot_small c.args.layout c.args.sector c.requires).0))
+
+pub overflow_mul-result : goal.overflow_mul-result
+overflow_mul-result c =
+    let l = c.layout_of-taken.ensures in
+    rw l (omega (arith, (slot_small c.args.layout c.args.sector c.requires).1))
+
+pub returns : goal.returns
+returns c =
+    ap (λ (l : Layout). slot_part l c.args.sector c.args.pass) c.layout_of-taken.ensures
