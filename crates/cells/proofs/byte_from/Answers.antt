@@ -31,6 +31,6 @@ returns c =
       ap₂ (λ (x n : ℕ). record { byte = x; clocks = n })
           (c.together.ensures ∙ sixteen_data (cell s) (cell_lt s) p sixteen.result sixteen.ensures)
           ((ones_right k).1
-          ∙ sixteen_clocks a.mode (cell s) (cell_lt s) p sixteen.result a bit.result sixteen.ensures bit.ensures.0 bit.ensures.1),
+          ∙ sixteen_clocks a.mode (cell s) (cell_lt s) p sixteen.result a.before bit.result sixteen.ensures bit.ensures.0 bit.ensures.1),
       omega arith,
     )

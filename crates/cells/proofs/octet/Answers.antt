@@ -8,7 +8,7 @@ pub returns-then-at-image : goal.returns-then-at-image
 returns-then-at-image c =
     let a = c.args in
     octet_read a.image.now a.place _ _ c.window.result
-    (c.shared_slice_known-1.given (a.place / 8)).fits (c.shared_slice_known-1.given (a.place / 8 + 1)).fits refl refl c.window.ensures
+    (c.type_inv.image (a.place / 8)).fits (c.type_inv.image (a.place / 8 + 1)).fits refl refl c.window.ensures
 
 pub returns : goal.returns
 returns c =

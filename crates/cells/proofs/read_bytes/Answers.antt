@@ -18,7 +18,7 @@ returns-then-place-eq0 c = rw c.if-place-eq0.true c.fill_by_bytes.ensures
 pub fill_by_mode-requires : goal.fill_by_mode-requires
 fill_by_mode-requires c =
     let a = c.args in
-    let both = roomy (length a.bytes-1.now) (length a.image.now) ((a.place - 1) / 8) c.if-bytes-image.true c.if-at-image.true in
+    let both = roomy (length a.bytes.now) (length a.image.now) ((a.place - 1) / 8) c.if-bytes-image.true c.if-at-image.true in
     (omega arith, both.0, both.1)
 
 pub returns-then-cell_at-before : goal.returns-then-cell_at-before

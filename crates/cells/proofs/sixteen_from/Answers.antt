@@ -7,7 +7,7 @@ pub returns-then-at-image : goal.returns-then-at-image
 returns-then-at-image c =
     let a = c.args in
     sixteen_read a.image.now a.at a.shift _ _ _ c.wide_window.result c.requires.0
-    (c.type_inv.image a.at).fits (c.shared_slice_known-1.given (a.at + 1)).fits (c.shared_slice_known-1.given (a.at + 2)).fits
+    (c.type_inv.image a.at).fits (c.type_inv.image (a.at + 1)).fits (c.type_inv.image (a.at + 2)).fits
     refl refl refl c.wide_window.ensures
 
 pub returns : goal.returns

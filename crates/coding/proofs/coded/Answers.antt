@@ -10,11 +10,11 @@ use Rattle.coding.proofs.coded.Goals as goal
 pub overflow_cast-result : goal.overflow_cast-result
 overflow_cast-result c =
     let a = c.args in
-    omega (arith, high_lt a.mode a a.byte, low_lt a.mode a.byte)
+    omega (arith, high_lt a.mode a.before a.byte, low_lt a.mode a.byte)
 
 pub returns : goal.returns
 returns c =
     let a = c.args in
-    let h : c.sixteen-cells.result / 256 ≡ high a.mode a a.byte = omega (arith, low_lt a.mode a.byte) in
+    let h : c.sixteen-cells.result / 256 ≡ high a.mode a.before a.byte = omega (arith, low_lt a.mode a.byte) in
     let l : c.sixteen-cells.result % 256 ≡ low a.mode a.byte = omega (arith, low_lt a.mode a.byte) in
     ap₂ {C = Pair} (λ x y. record { first = x; second = y }) h l

@@ -60,9 +60,9 @@ returns-then-before-eq0 c =
 pub returns-in-Fm : goal.returns-in-Fm
 returns-in-Fm c =
     let a = c.args in
-    fm_cells a a.byte (search rules) ∙ ap (λ (m : Mode). joined m a a.byte) (sym c.in-Fm.is)
+    fm_cells a.before a.byte (search rules) ∙ ap (λ (m : Mode). joined m a.before a.byte) (sym c.in-Fm.is)
 
 pub returns-else-before-eq0 : goal.returns-else-before-eq0
 returns-else-before-eq0 c =
     let a = c.args in
-    after_one a a.byte (search rules) c.if-before-eq0.false ∙ ap (λ (m : Mode). joined m a a.byte) (sym c.in-Mfm.is)
+    after_one a.before a.byte (search rules) c.if-before-eq0.false ∙ ap (λ (m : Mode). joined m a.before a.byte) (sym c.in-Mfm.is)

@@ -10,6 +10,7 @@ use Rattle.cells.proofs.Bytes.{fill_turn, fill_whole, stays}
 use Rattle.cells.proofs.Clocks.{clocks_step, clocks_end, clocks_stay, last_bit_lem}
 use Rattle.cells.proofs.Joined.{cell_lt}
 use Rattle.cells.proofs.runs.fill_by_bytes.Goals as goal
+use Rattle.cells.proofs.runs.fill_by_bytes.Goals.{then-from-image, else-from-image}
 
 module _ (mode : Mode) (s : List ℕ) (from next k n : ℕ) where
   -- The bytes from the next place on are those that follow, and so are their clock cells.
@@ -55,17 +56,17 @@ loop-i-preserved c =
     let within : l.i < length a.bytes.now = omega (arith, h, l.invariant.1) in
     let byte = ap (λ (r : ReadByte). r.byte) read.ensures.0 in
     let count = ap (λ (r : ReadByte). r.clocks) read.ensures.0 in
-    let next = ⊎_elim {C = Onward a.mode s l.from c.if-from-image.from a.shift n}
-    (λ w. moves a.mode s l.from c.if-from-image.from a.shift n (search rules) w.0.taken w.1)
-    (λ w. rests a.mode s l.from c.if-from-image.from a.shift n l.invariant.2 w.0.left w.1)
-    c.if-from-image.branch in (
+    let next : Onward a.mode s l.from c.if-from-image.from a.shift n = elim c.if-from-image.branch [
+      then-from-image w ↦ moves a.mode s l.from c.if-from-image.from a.shift n (search rules) w.if-from-image.true w.from-is
+      | else-from-image w ↦ rests a.mode s l.from c.if-from-image.from a.shift n l.invariant.2 w.if-from-image.false w.from-is
+    ] in (
       search rules,
       simp length-set l.invariant.1,
       next.0,
       l.invariant.3 ∙ fill_turn _ _ _ _ _ _ _ (omega arith) byte refl ∙ ap (sets _ _) next.1,
       counts a.mode (cell s) l.last (read.result.byte % 2) (8 * l.from + a.shift) l.i (length a.bytes.now) l.clocks read.result.clocks
           _ _ _ within (ap (λ (x : ℕ). x % 2) byte ∙ last_bit_lem a.mode (cell s) (cell_lt s) _)
-          count c.wrapping_add_u32-clocks.ensures (next.2 _) l.invariant.4,
+          count c.wrapping_add_u32-clocks.ensures.value (next.2 _) l.invariant.4,
       search rules,
     )
 

@@ -10,14 +10,14 @@ overflow_cast-result c =
 pub overflow_cast-result-2 : goal.overflow_cast-result-2
 overflow_cast-result-2 c =
     let a = c.args in
-    omega (arith, (c.shared_slice_known-2-1.given (a.at + 1)).fits)
+    omega (arith, (c.type_inv.image (a.at + 1)).fits)
 
 pub overflow_mul-result : goal.overflow_mul-result
 overflow_mul-result c =
     let a = c.args in
-    omega (arith, (c.shared_slice_known-2-1.given (a.at + 1)).fits)
+    omega (arith, (c.type_inv.image (a.at + 1)).fits)
 
 pub overflow_add-result-2 : goal.overflow_add-result-2
 overflow_add-result-2 c =
     let a = c.args in
-    omega (arith, (c.type_inv.image a.at).fits, (c.shared_slice_known-2-1.given (a.at + 1)).fits)
+    omega (arith, (c.type_inv.image a.at).fits, (c.type_inv.image (a.at + 1)).fits)
