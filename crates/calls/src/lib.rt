@@ -1,6 +1,7 @@
 // Why a call is refused, with the numbers of the papers, and the tests that several calls share. A function that tests a call is named after
 // what it tests; the tests stand in the order of the papers, and the first that applies gives the refusal.
 #![tactic(auto)]
+
 ghost use Rattle.calls.specs.Outcomes.{IsRefusalNumber, IsCheckedNumber, IsTested};
 ghost use Rattle.calls.specs.Outcomes.{IsImageLength, IsAreaLength, IsMarkByte, IsControlRecord, IsSectorNumber};
 

@@ -1,6 +1,7 @@
 // The cells of an image: eight to a byte, most significant first, what eight and sixteen of them hold, and which clock cells are doubtful.
 // Every function takes any place: past the image's end cells are 0.
 #![tactic(auto)]
+
 ghost use Rattle.std.specs.Prelude.{◌≡◌, ◌+◌, ◌-◌, ◌*◌, ◌/◌, ◌%◌, ◌^◌, ◌<◌, ◌≤◌, length, ◌≢◌, slice_index};
 ghost use Rattle.cells.specs.Cells.{cell, byte_of, octet};
 ghost use Rattle.cells.specs.Aids.{ruled, right_clocks};

@@ -1,5 +1,6 @@
 // How a data byte is coded in sixteen cells.
 #![tactic(auto)]
+
 ghost use Rattle.std.specs.Prelude.{◌≡◌, ◌+◌, ◌*◌};
 ghost use Rattle.coding.specs.Coding.{high, low};
 ghost use Rattle.coding.specs.Outcomes.{IsCoded};

@@ -1,6 +1,7 @@
 // The error detection code of a track's fields: the shift register of ISO 7065-2, annex A, by whole bytes and by words of eight. There is no
 // table: over bits all of it is linear, so a few shifts of the whole register, or of a word that stands for it, do what eight or 64 single ones do.
 #![tactic(auto)]
+
 ghost use Rattle.std.specs.Prelude.{◌+◌, ◌*◌, ◌≤◌, ◌≡◌, length};
 ghost use Rattle.edc.specs.Register.{byte_entered};
 ghost use Rattle.edc.specs.Words.{word_entered, stands_for, EntersAs};

@@ -1,6 +1,7 @@
 // The layouts of a track, which track takes which, and the tests of a track's numbers. A layout is a value made of its type's constants, and a
 // track a layout with its place on the disk.
 #![tactic(auto)]
+
 ghost use Rattle.std.specs.Prelude.{◌≡◌};
 ghost use Rattle.layouts.specs.Tracks.{allowed};
 ghost use Rattle.layouts.specs.Outcomes.{IsGapByte, IsLayoutOf, IsTrack, IsLayoutNumber, IsTrackNumbers, IsTrackAndImage};

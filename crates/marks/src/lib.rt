@@ -1,6 +1,7 @@
 // The marks of a track: fixed strings of image bytes, compared at any cell, and all that is known of one: its width, its last byte and
 // bit, and the register of the EDC behind it.
 #![tactic(auto)]
+
 ghost use Rattle.std.specs.Prelude.{◌≡◌, ◌+◌, ◌*◌, ◌≤◌, length};
 ghost use Rattle.cells.specs.Cells.{cell};
 ghost use Rattle.cells.specs.declared.Mode.TheVariants.{Fm, Mfm};

@@ -1,5 +1,6 @@
 // The search for the first mark of given kinds, and the look whether one begins with a byte.
 #![tactic(auto)]
+
 ghost use Rattle.marks.specs.Outcomes.{Housed};
 ghost use Rattle.search.specs.Outcomes.{IsMarkAt, IsFirstMark};
 

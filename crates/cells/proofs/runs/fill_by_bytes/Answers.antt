@@ -57,7 +57,7 @@ loop-i-preserved c =
     let byte = ap (λ (r : ReadByte). r.byte) read.ensures.0 in
     let count = ap (λ (r : ReadByte). r.clocks) read.ensures.0 in
     let next : Onward a.mode s l.from c.if-from-image.from a.shift n = elim c.if-from-image.branch [
-      then-from-image w ↦ moves a.mode s l.from c.if-from-image.from a.shift n (search rules) w.if-from-image.true w.from-is
+      | then-from-image w ↦ moves a.mode s l.from c.if-from-image.from a.shift n (search rules) w.if-from-image.true w.from-is
       | else-from-image w ↦ rests a.mode s l.from c.if-from-image.from a.shift n l.invariant.2 w.if-from-image.false w.from-is
     ] in (
       search rules,

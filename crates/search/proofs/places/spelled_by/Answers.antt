@@ -1,5 +1,6 @@
 -- `spelled_by` meets its contract: each arm knows a mark's word, and the last ones that it is none of them.
 use mathlib.Core.Path.{refl}
+use borrow.Author.Rules.{rules}
 use Rattle.cells.specs.declared.Mode.TheVariants.{Fm, Mfm}
 use Rattle.search.specs.Aids.{word_at, spelled_by}
 use Rattle.search.proofs.Telling.{spelled_one, spelled_none}
@@ -23,9 +24,7 @@ returns-in-62827 c = spelled_one Fm _ c.in-Fm.is c.in-62827.is refl
 
 pub returns-in_default : goal.returns-in_default
 unfolding word_at
-returns-in_default c =
-    let n = c.in_default.rest in
-    spelled_none Fm c.in-Fm.is n.0.0.0.1 n.0.0.1 n.0.1 n.1
+returns-in_default c = spelled_none Fm c.in-Fm.is (search rules) (search rules) (search rules) (search rules)
 
 pub returns-in-4938553822739518804 : goal.returns-in-4938553822739518804
 unfolding spelled_by word_at
@@ -45,6 +44,4 @@ returns-in-4938553822739518793 c = spelled_one Mfm _ c.in-Mfm.is c.in-4938553822
 
 pub returns-in_default-word : goal.returns-in_default-word
 unfolding word_at
-returns-in_default-word c =
-    let n = c.in_default-word.rest in
-    spelled_none Mfm c.in-Mfm.is n.0.0.0.1 n.0.0.1 n.0.1 n.1
+returns-in_default-word c = spelled_none Mfm c.in-Mfm.is (search rules) (search rules) (search rules) (search rules)
