@@ -71,7 +71,7 @@ impl There {
     }
 }
 
-/// The name that a line of the logic declares: `abbrev pub slotOf : ..`, `pub record Reads (..) : .. where`, a field.
+/// The name that a line of the logic declares: `abbrev pub slot_of : ..`, `pub record Reads (..) : .. where`, a field.
 fn declared_by(line: &str) -> Option<&str> {
     let (mut rest, mut is_type) = (line.trim_start(), false);
     while let Some((word, after)) = rest.split_once(' ') {

@@ -1,5 +1,5 @@
 -- `clear` meets its contract: what is left to clear from a byte on ends where the whole does.
-use Rattle.std.proofs.Common.{◌-◌, ◌<◌, ◌≤◌, length, sym, refl, ◌∙◌, arith, length-set, rules}
+use Rattle.std.proofs.Common.{◌<◌, ◌≤◌, length, sym, refl, ◌∙◌, arith, length-set, rules}
 use native.Mathlib.Nat.{sub-zero}
 use Rattle.cells.proofs.Stores.{zero_turn, zero_end, zero_whole}
 use Rattle.cells.proofs.clear.Goals as goal

@@ -1,6 +1,6 @@
 -- `edc::bytes_entered` meets its contract. The invariant of both loops: from the register that the present word stands for the bytes from
 -- `i` on lead where all of them lead from the first. The inner one does not go back, so that what is left of the length falls in both.
-use Prim.Native.Nat.{◌+◌, ◌-◌}
+use Prim.Native.Nat.{◌+◌}
 use mathlib.Core.Path.{sym, ap, ◌∙◌}
 use native.Mathlib.Omega.{arith}
 use borrow.Author.Rules.{rules}

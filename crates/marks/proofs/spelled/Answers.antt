@@ -1,5 +1,4 @@
 -- `spelled` meets its contract: what is left to compare from byte i on says the same as the whole.
-use Prim.Native.Nat.{◌-◌}
 use mathlib.Core.Path.{sym, ◌∙◌}
 use native.Mathlib.Nat.{add-zero}
 use borrow.Author.Rules.{rules}

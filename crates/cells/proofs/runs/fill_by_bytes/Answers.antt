@@ -1,6 +1,6 @@
 -- `fill_by_bytes` meets its contract: what is left to store and to count from byte i on ends where the whole does. Past the image's end the place no
 -- longer matters.
-use Rattle.std.proofs.Common.{◌≡◌, ℕ, ◌+◌, ◌-◌, ◌*◌, ◌%◌, ◌^◌, ◌<◌, ◌≤◌, List, length, refl, ap, ◌∙◌, ⊎_elim, add-zero, add_assoc, zero-add, arith, length-set, rules}
+use Rattle.std.proofs.Common.{◌≡◌, ℕ, ◌+◌, ◌-◌, ◌*◌, ◌%◌, ◌^◌, ◌<◌, ◌≤◌, List, length, refl, ap, ◌∙◌, add-zero, add_assoc, zero-add, arith, length-set, rules}
 use native.Mathlib.Nat.{sub-zero, mod-add-mod}
 use lib.Seq.{sets}
 use Rattle.cells.specs.Cells.{cell, data_bytes, byte_clocks, bytes_clocks}
