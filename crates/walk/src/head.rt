@@ -1,6 +1,5 @@
-// The reading head: it stands at a cell of the lent image, any cell, byte boundary or not. The borrow checker covers no function over such
-// a struct, so each function here is proved by hand, a straight line that leaves the work to a covered function on slice and number. Those
-// that the walk calls, `byte_at` and `mark_from`, have plain parameters: no caller of them needs a proof by hand.
+// The reading head: it stands at a cell of the lent image, any cell, byte boundary or not. Each function here is a straight line that
+// leaves the work to a function on slice and number. Those that the walk calls, `byte_at` and `mark_from`, have plain parameters.
 ghost use Rattle.std.specs.Prelude.{◌≡◌, ◌*◌, length};
 ghost use Rattle.cells.specs.Cells.{cell};
 ghost use Rattle.cells.specs.Outcomes.{IsReadByte};

@@ -1,6 +1,7 @@
 // The walk over a track's image: from mark to mark, what each identifier is and which block it claims. The reader keeps what the walk meets,
 // sector by sector; a request looks for the block of one sector.
 #![tactic(auto)]
+
 ghost use Rattle.marks.specs.Outcomes.{Housed};
 ghost use Rattle.walk.specs.Outcomes.{IsRound};
 

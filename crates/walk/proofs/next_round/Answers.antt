@@ -1,7 +1,6 @@
 -- `next_round` meets its contract: each of its ends is one way of the round.
 use mathlib.Core.Path.{ap}
 use Prim.Native.Nat.{ℕ, ◌*◌}
-use borrow.Author.Tests.{not-true, not-false}
 use native.Mathlib.Omega.{arith}
 use Rattle.walk.proofs.Stepping.{found_high, round_none, round_short, round_bad, round_foreign, round_took}
 use Rattle.walk.proofs.next_round.Goals as goal
@@ -35,11 +34,11 @@ returns-then-not-is_ours c =
     let e = c.address_at-address.ensures in
     let wide = ap (λ (k : ℕ). 16 * k) c.mark_bytes.ensures.0 in
     round_foreign _ _ _ _ _ c.mark_from.ensures _ _ _ c.in-At.is wide c.if-end-after.false _ e.4 c.if-address-ne0.false _ _ _ _
-    e.0 e.1 e.2 e.3 _ c.is_ours.ensures (not-true _ c.if-not-is_ours.true-raw)
+    e.0 e.1 e.2 e.3 _ c.is_ours.ensures (c.if-not-is_ours.true)
 
 pub returns : goal.returns
 returns c =
     let e = c.address_at-address.ensures in
     let wide = ap (λ (k : ℕ). 16 * k) c.mark_bytes.ensures.0 in
     round_took _ _ _ _ _ c.mark_from.ensures _ _ _ c.in-At.is wide c.if-end-after.false _ e.4 c.if-address-ne0.false _ _ _ _
-    e.0 e.1 e.2 e.3 _ c.is_ours.ensures _ (not-false _ c.if-not-is_ours.false-raw) c.Block-of.ensures
+    e.0 e.1 e.2 e.3 _ c.is_ours.ensures _ (c.if-not-is_ours.false) c.block_of.ensures

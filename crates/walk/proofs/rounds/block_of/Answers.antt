@@ -1,7 +1,6 @@
 -- `block_of` meets its contract: each of its ends is one of step 3 or step 4.
 use mathlib.Core.Path.{refl, ap}
 use Prim.Native.Nat.{ℕ, ◌*◌}
-use borrow.Author.Tests.{not-true, not-false}
 use native.Mathlib.Omega.{arith}
 use Rattle.walk.proofs.Stepping.{found_room, reached_none, reached_other, reached_within, reached_beyond}
 use Rattle.walk.proofs.rounds.block_of.Goals as goal
@@ -17,7 +16,7 @@ returns-then-not-is_block c =
     let a = c.args in
     let F = rw c.reach_of.ensures.0 at c.mark_from.ensures in
     rw (← F) (reached_other a.layout _ a.sector a.after _ _ _ _ c.in-At.is c.is_block.ensures
-    (not-true _ c.if-not-is_block.true-raw))
+    c.if-not-is_block.true)
 
 pub overflow_add-field : goal.overflow_add-field
 overflow_add-field c =
@@ -37,7 +36,7 @@ returns-then-layout-room c =
     let wide = ap (λ (k : ℕ). 16 * k) c.mark_bytes.ensures.0 in
     let there = found_room _ _ _ _ _ _ _ _ _ _ c.mark_from.ensures c.in-At.is wide in
     rw (← F) (reached_within a.layout _ a.sector a.after _ _ _ _ _ _ c.in-At.is c.is_block.ensures
-    (not-false _ c.if-not-is_block.false-raw) wide there refl c.if-room-ge2.true c.if-layout-room.true)
+    c.if-not-is_block.false wide there refl c.if-room-ge2.true c.if-layout-room.true)
 
 pub returns-else-layout-room : goal.returns-else-layout-room
 returns-else-layout-room c =
@@ -46,7 +45,7 @@ returns-else-layout-room c =
     let wide = ap (λ (k : ℕ). 16 * k) c.mark_bytes.ensures.0 in
     let there = found_room _ _ _ _ _ _ _ _ _ _ c.mark_from.ensures c.in-At.is wide in
     rw (← F) (reached_beyond a.layout _ a.sector a.after _ _ _ _ _ _ c.in-At.is c.is_block.ensures
-    (not-false _ c.if-not-is_block.false-raw) wide there refl (λ two. c.if-layout-room.false))
+    c.if-not-is_block.false wide there refl (λ two. c.if-layout-room.false))
 
 pub returns-else-room-ge2 : goal.returns-else-room-ge2
 returns-else-room-ge2 c =
@@ -55,4 +54,4 @@ returns-else-room-ge2 c =
     let wide = ap (λ (k : ℕ). 16 * k) c.mark_bytes.ensures.0 in
     let there = found_room _ _ _ _ _ _ _ _ _ _ c.mark_from.ensures c.in-At.is wide in
     rw (← F) (reached_beyond a.layout _ a.sector a.after _ _ _ _ _ _ c.in-At.is c.is_block.ensures
-    (not-false _ c.if-not-is_block.false-raw) wide there refl (λ two. let h = c.if-room-ge2.false in absurd (omega arith)))
+    c.if-not-is_block.false wide there refl (λ two. let h = c.if-room-ge2.false in absurd (omega arith)))
