@@ -15,22 +15,22 @@ pub put_file-end-requires : goal.put_file-end-requires
 put_file-end-requires c =
     let a = c.args in
     let content : Content = record { label = a.label.now; tracks = a.tracks.now; answers = a.answers.now; «data» = a.«data».now } in
-    room_enough content (length a.area-1.now) (tested_passed _ _ c.tested.ensures c.in-Passed.is)
+    room_enough content (length a.area.now) (tested_passed _ _ c.tested.ensures c.in-Passed.is)
 
 pub overflow_cast-result : goal.overflow_cast-result
 overflow_cast-result c =
     let a = c.args in
     let content : Content = record { label = a.label.now; tracks = a.tracks.now; answers = a.answers.now; «data» = a.«data».now } in
     let passes = tested_passed _ _ c.tested.ensures c.in-Passed.is in
-    let short = file_short content (fitting content (writing_fits content (length a.area-1.now) passes)) in
-    omega (arith, short, c.put_file-end.ensures.1)
+    let short = file_short content (fitting content (writing_fits content (length a.area.now) passes)) in
+    omega (arith, short, c.put_file-end.ensures.behind)
 
 pub returns-in-Refused : goal.returns-in-Refused
 unfolding write_answer write_area by
 returns-in-Refused c =
     let a = c.args in
     let content : Content = record { label = a.label.now; tracks = a.tracks.now; answers = a.answers.now; «data» = a.«data».now } in
-    let refuses = tested_refused (refusal (write_tests content (length a.area-1.now))) _ c.tested.ensures _ c.in-Refused.is in
+    let refuses = tested_refused (refusal (write_tests content (length a.area.now))) _ c.tested.ensures _ c.in-Refused.is in
     record { answers = rw refuses; leaves = c.clear.ensures ∙ rw refuses }
 
 pub returns-in-Passed : goal.returns-in-Passed
@@ -38,5 +38,5 @@ unfolding write_answer write_area by
 returns-in-Passed c =
     let a = c.args in
     let content : Content = record { label = a.label.now; tracks = a.tracks.now; answers = a.answers.now; «data» = a.«data».now } in
-    let passes = tested_passed (refusal (write_tests content (length a.area-1.now))) _ c.tested.ensures c.in-Passed.is in
-    record { answers = rw passes (ap written.File c.put_file-end.ensures.1); leaves = rw passes c.put_file-end.ensures.0 }
+    let passes = tested_passed (refusal (write_tests content (length a.area.now))) _ c.tested.ensures c.in-Passed.is in
+    record { answers = rw passes (ap written.File c.put_file-end.ensures.behind); leaves = rw passes c.put_file-end.ensures.written }

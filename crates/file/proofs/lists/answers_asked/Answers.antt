@@ -22,10 +22,10 @@ overflow_add-end c =
     let answers = c.args.answers.now in
     let there : 3 * l.i + 2 < length tracks = omega (arith, c.loop-i-test.true, l.invariant) in
     let known = c.layout_of-layout.ensures in
-    omega (arith, onward tracks answers l.i l.at _ known there l.invariant.3, c.well-formed)
+    omega (arith, onward tracks answers l.i l.at _ known there l.invariant.3)
 
-pub UNKNOWN-slice-bounds-carrying-asked-end : goal.UNKNOWN-slice-bounds-carrying-asked-end
-UNKNOWN-slice-bounds-carrying-asked-end c =
+pub slice_bounds-carrying_asked-end : goal.slice_bounds-carrying_asked-end
+slice_bounds-carrying_asked-end c =
     let l = c.loop-i in
     let tracks = c.args.tracks.now in
     let answers = c.args.answers.now in

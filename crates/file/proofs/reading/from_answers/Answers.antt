@@ -32,7 +32,7 @@ answers_asked-requires c =
     let at = c.end_of-at.ensures ∙ ap (end track_width) c.requires.1 in
     let there = found file _ (end track_width (tracks_in file)) _ _ 1 AnswerBytes at _ c.section.ensures _ c.in-Section.is in
     let list = c.part-list.ensures in
-    let x = c.in-Section.answers-1 in
+    let x = c.in-Section.answers in
     let count : 1 * x.count ≡ c.args.sectors = omega (arith, there.enough, there.few) in (
       rw list (omega (arith, held_few track_width c.args.tracks file, c.requires.4)),
       rw (list, c.part.ensures) (held_whole 1 x file there.ends ∙ count ∙ c.requires.5),

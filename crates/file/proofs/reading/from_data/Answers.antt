@@ -14,5 +14,5 @@ pub returns-in-Section : goal.returns-in-Section
 returns-in-Section c =
     let file = c.args.file.now in
     let at = c.end_of.ensures ∙ ap (end 1) c.requires.2 in
-    let found = data_found file _ _ at (rw (c.requires.1, c.requires.2) at c.requires.4) _ c.counted.ensures _ c.«data».given.1 in
+    let found = data_found file _ _ at (rw (c.requires.1, c.requires.2) at c.requires.4) _ c.counted.ensures _ c.in-Section.is in
     rw (c.requires.0, c.requires.1, c.requires.2) found

@@ -27,7 +27,7 @@ tracks_asked-requires c =
     let at = c.end_of-at.ensures ∙ ap (end 1) c.requires.0 in
     let told = c.section.ensures in
     let there = found file _ (end 1 (label_in file)) 0 most_tracks track_width LabelOrTracks at _ told _ c.in-Section.is in
-    rw c.part.ensures (omega (arith, held_few track_width c.in-Section.tracks-1 file, there.few))
+    rw c.part.ensures (omega (arith, held_few track_width c.in-Section.tracks file, there.few))
 
 pub from_answers-requires : goal.from_answers-requires
 unfolding tracks_in
@@ -35,7 +35,7 @@ from_answers-requires c =
     let file = c.args.file.now in
     let at = c.end_of-at.ensures ∙ ap (end 1) c.requires.0 in
     let there = found file _ (end 1 (label_in file)) 0 most_tracks track_width LabelOrTracks at _ c.section.ensures _ c.in-Section.is in
-    let same : c.in-Section.tracks-1 ≡ tracks_in file = there.same in
+    let same : c.in-Section.tracks ≡ tracks_in file = there.same in
     let list = c.part.result.now in
     let asked = list_right _ _ c.tracks_asked.ensures _ c.in-Asks.is in (
       c.requires.0,

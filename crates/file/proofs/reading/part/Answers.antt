@@ -8,5 +8,5 @@ use Rattle.file.proofs.reading.part.Goals as goal
 pub returns : goal.returns
 returns c =
     let a = c.args in
-    let e : c.end_of-end.result-1 - a.section.place ≡ a.width * a.section.count = omega (arith, c.end_of-end.ensures) in
+    let e : c.end_of-end.result - a.section.place ≡ a.width * a.section.count = omega (arith, c.end_of-end.ensures) in
     ap (λ (k : ℕ). take k (drop a.section.place a.file.now)) e

@@ -40,7 +40,7 @@ returns-then-data-bytes c =
     let a = c.args in
     let content : Content = record { label = a.label.now; tracks = a.tracks.now; answers = a.answers.now; «data» = a.«data».now } in
     let right = numbers_right _ _ _ c.answers_asked.ensures _ c.in-Asks.is in
-    let bytes : c.in-Asks.bytes-1 ≡ carried_bytes (entries content.tracks) content.answers = right.1 in
+    let bytes : c.in-Asks.bytes ≡ carried_bytes (entries content.tracks) content.answers = right.1 in
     applied _ tested.Refused (data_test content.tracks content.answers (length content.«data»)) _ (ap not (ne_eqb _ _ (rw bytes at c.if-data-bytes.true)))
     ∙ skipped _ tested.Refused (numbers_test content.answers) _ (ap not right.0)
     ∙ skipped _ tested.Refused (answers_test content.tracks (length content.answers)) _ (ap not (eq-eqb _ _ (c.if-answers-sectors.false ∙ c.requires.2)))

@@ -20,13 +20,15 @@ returns c =
     let a = c.args in
     let content : Content = record { label = a.label.now; tracks = a.tracks.now; answers = a.answers.now; «data» = a.«data».now } in
     let put = c.put_sections-end in
-    let filled = put.new.1.1.1.1.0 in
+    let filled = put.new.area in
     let n = length (encoded content) in
-    let long : length filled ≡ length a.area-1.now = put.auto.1.1.1.1.0 in
+    let long : length filled ≡ length a.area.now = put.auto.area in
     let rest : length (take (length filled - put.result) (drop put.result filled)) ≡ length filled - n =
-    tail_long filled put.result (omega (arith, put.ensures.1, long, c.requires)) ∙ ap (λ (k : ℕ). length filled - k) put.ensures.1 in
-    let zeros = c.clear.ensures ∙ ap (λ (k : ℕ). replicate k 0) rest in (
-      ap (λ (k : ℕ). put_mid k (length filled - k) filled c.clear.new.0) put.ensures.1
-          ∙ cleared content a.area-1.now filled _ put.ensures.0 zeros c.requires,
-      put.ensures.1,
-    )
+    tail_long filled put.result (omega (arith, put.ensures.behind, long, c.requires)) ∙ ap (λ (k : ℕ). length filled - k) put.ensures.behind in
+    let zeros = c.clear.ensures ∙ ap (λ (k : ℕ). replicate k 0) rest in
+    record {
+      written =
+          ap (λ (k : ℕ). put_mid k (length filled - k) filled c.clear.new.area) put.ensures.behind
+          ∙ cleared content a.area.now filled _ put.ensures.written zeros c.requires;
+      behind = put.ensures.behind;
+    }

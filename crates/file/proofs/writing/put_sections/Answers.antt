@@ -11,5 +11,7 @@ returns c =
     let three = c.put_section-data_at.ensures in
     let four = c.put_section.ensures in
     let content : Content = record { label = a.label.now; tracks = a.tracks.now; answers = a.answers.now; «data» = a.«data».now } in
-    all_sets content a.area-1.now _ _ _ _ _ _ _ _
-    one.0 one.1 two.0 two.1 three.0 three.1 four.0 four.1
+    let all =
+    all_sets content a.area.now _ _ _ _ _ _ _ _
+    one.written one.behind two.written two.behind three.written three.behind four.written four.behind in
+    record { written = all.0; behind = all.1 }
