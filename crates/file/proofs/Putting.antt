@@ -1,12 +1,12 @@
 -- How long a file is, and how it comes into an area, section by section.
 use mathlib.Core.Path.{◌≡◌, sym, ap, ap₂, ◌∙◌}
-use mathlib.Core.List.{List, ◌++◌, append_assoc, append-nil}
+use mathlib.Core.List.{List, ◌++◌, append_assoc}
 use Prim.Native.Nat.{ℕ, suc, ◌+◌, ◌-◌, ◌≤◌, ◌/◌, ◌%◌}
 use native.Mathlib.Nat.{zero-add}
 use native.Mathlib.Omega.{arith}
 use borrow.Rule.Slice.PartMut.{put_mid}
-use lib.ListN.{take, drop, drop_of_length-le, length, length-drop, length-append, length-replicate, replicate, set}
-use lib.Seq.{sets, length-sets, take-length, length-take-le}
+use lib.ListN.{take, drop, length, length-drop, length-append, length-replicate, replicate, set}
+use lib.Seq.{sets, length-sets, length-take-le}
 use Rattle.cells.proofs.Stores.{sets_append, sets_whole, part_put}
 use Rattle.file.specs.Contents.{Content, track_width}
 use Rattle.file.specs.Sections.{four_bytes, counted, encoded}
@@ -57,11 +57,6 @@ four_sets area at n =
     let two : at + 2 ≡ suc (suc at) = omega arith in
     let three : at + 3 ≡ suc (suc (suc at)) = omega arith in
     rw (one, two, three)
-
--- What is copied into a part of its own length is what was copied.
-pub copied : (held entry part : List ℕ) → part ≡ take (length held) held ++ drop (length held) entry → length entry ≡ length held → part ≡ held
-copied held entry part e h =
-    e ∙ ap₂ (λ (x y : List ℕ). x ++ y) (take-length held) (drop_of_length-le entry {i = length held} (omega (arith, h))) ∙ append-nil held
 
 -- A count and its section behind it.
 pub section_sets : (width : ℕ) (area mid part held : List ℕ) (at : ℕ) → mid ≡ sets area at (four_bytes (length held / width)) → part ≡ held

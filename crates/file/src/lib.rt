@@ -1,6 +1,7 @@
 // The file of a read cartridge: label, tracks, answers and data, in four sections. A file is judged from its first byte on; a function of its own
 // judges the part before the data, so that a reader of many files need not hold one whole.
 #![tactic(auto)]
+
 ghost use Rattle.std.specs.Prelude.{length};
 ghost use Rattle.file.specs.Outcomes.{IsRefusalNumber, IsHead, IsWhole, IsRead, Writes};
 

@@ -1,7 +1,6 @@
 -- `carrying_asked` meets its contract: the answers from i on tell what all tell.
 use mathlib.Core.Path.{sym, ap, ◌∙◌}
 use mathlib.Core.Bool.{Bool, cond}
-use Prim.Native.Nat.{◌-◌}
 use native.Mathlib.Omega.{arith}
 use Rattle.file.specs.declared.Asked.TheVariants.{Asks, Wrong}
 use Rattle.file.proofs.Carrying.{carrying_start, carrying_next, carrying_end}
