@@ -88,7 +88,7 @@ module _ (l : Layout) where
   -- Its image bytes.
   pub length_leader : length (leader l) ≡ 2 * (l.lead + l.sync + mark_bytes l.mode + l.index_gap)
   unfolding leader width
-  length_leader = rw (length_image, width_run, width_run l.mode l.sync, width_run) (omega arith)
+  length_leader = rw (length_image, width_run, width_run l.mode l.sync, width_run l.mode l.index_gap) (omega arith)
 
 module _ (t : Track) where
   -- ---- a sector
@@ -180,7 +180,7 @@ module _ (t : Track) where
         + length order * sector_fields t.layout + t.layout.track_gap)
     unfolding formatted track width
     length_formatted order h =
-        rw (length_image, width_run, width_run t.layout.mode t.layout.sync, width_run, width_sectors order h) (omega arith)
+        rw (length_image, width_run, width_run t.layout.mode t.layout.sync, width_run t.layout.mode t.layout.index_gap, width_sectors order h) (omega arith)
 
     pub length_fields : (order : List ℕ) → length order ≡ t.layout.sectors → Every (Slotted t.layout.size contents) order
         → length (formatted t contents marks order) ≡ 2 * fields t.layout

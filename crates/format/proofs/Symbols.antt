@@ -187,7 +187,7 @@ module _ (l : Layout) where
   pub width_block : (m : Mark) (xs : List ℕ) (ss : List Symbol)
       → width l.mode (block l m xs ss) ≡ l.sync + mark_bytes l.mode + length xs + 2 + width l.mode ss
   unfolding width block
-  width_block m xs ss = rw (width_run l.mode l.sync 0, width_bytes, length_checked) (omega arith)
+  width_block m xs ss = rw (width_run l.mode l.sync 0, width_bytes l.mode, length_checked l.mode m xs) (omega arith)
 
   -- ---- a block with the gap behind it
 

@@ -13,7 +13,7 @@ pub loop-i-init : goal.loop-i-init
 loop-i-init c = (search rules, omega arith, rw (zero-add, sub-zero) (sym c.requires.0), rw sub-zero)
 
 pub overflow_cast-marks : goal.overflow_cast-marks
-overflow_cast-marks c = omega (arith, c.shared_slice_known-in-loop-i-1.given c.loop-i.i)
+overflow_cast-marks c = omega (arith, (c.type_inv.marks c.loop-i.i).fits)
 
 pub bounds-contents-from : goal.bounds-contents-from
 bounds-contents-from c =
@@ -28,7 +28,7 @@ returns-in_default c =
 
 pub overflow_add-from : goal.overflow_add-from
 overflow_add-from c =
-    omega (arith, left_step c.args.layout.sectors c.loop-i.i c.args.layout.size c.loop-i-test.true, c.loop-i.invariant, c.requires, c.well-formed)
+    omega (arith, left_step c.args.layout.sectors c.loop-i.i c.args.layout.size c.loop-i-test.true, c.loop-i.invariant, c.requires, c.well_formed)
 
 pub loop-i-preserved : goal.loop-i-preserved
 loop-i-preserved c =

@@ -13,7 +13,7 @@ pub loop-i-init : goal.loop-i-init
 loop-i-init c = (search rules, marks_each c.args.sectors c.args.marks.now c.if-marks-sectors.false)
 
 pub overflow_cast-marks : goal.overflow_cast-marks
-overflow_cast-marks c = omega (arith, c.shared_slice_known-in-loop-i-1.given c.loop-i.i)
+overflow_cast-marks c = omega (arith, (c.type_inv.marks c.loop-i.i).fits)
 
 pub returns-in_default : goal.returns-in_default
 returns-in_default c =

@@ -6,8 +6,11 @@ use Rattle.format.proofs.write.write_body.Goals as goal
 
 pub returns : goal.returns
 returns c =
-    let a = c.args in (
-      body_stored a.mode a.area-1.now a.at _ a.space _ _ a.mark a.contents.now c.gap_byte-gap.ensures
-          c.write_checked-last.ensures.0 c.write_checked-last.ensures.1 refl c.write_run.ensures.0,
-      omega (arith, c.write_run.ensures.1),
-    )
+    let a = c.args in
+    let bytes = c.write_checked-last.ensures in
+    record {
+      written =
+          body_stored a.mode a.area.now a.at _ a.space _ _ a.mark a.contents.now c.gap_byte-gap.ensures
+          bytes.written bytes.bit refl c.write_run.ensures.written;
+      behind = omega (arith, c.write_run.ensures.behind);
+    }

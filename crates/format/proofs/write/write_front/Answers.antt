@@ -5,7 +5,9 @@ use Rattle.format.proofs.write.write_front.Goals as goal
 
 pub returns : goal.returns
 returns c =
-    let a = c.args in (
-      front_stored a.mode a.area-1.now a.at _ a.sync _ a.mark c.gap_byte-gap.ensures c.write_run-mark_at.ensures.0 c.write_run-mark_at.ensures.1 c.write_mark.ensures.0,
-      omega (arith, c.write_run-mark_at.ensures.1, c.write_mark.ensures.1),
-    )
+    let a = c.args in
+    let zeros = c.write_run-mark_at.ensures in
+    record {
+      written = front_stored a.mode a.area.now a.at _ a.sync _ a.mark c.gap_byte-gap.ensures zeros.written zeros.behind c.write_mark.ensures.written;
+      behind = omega (arith, zeros.behind, c.write_mark.ensures.behind);
+    }

@@ -6,9 +6,12 @@ use Rattle.format.proofs.write.write_mark.Goals as goal
 pub returns-in-Fm : goal.returns-in-Fm
 returns-in-Fm c =
     let a = c.args in
-    mark_stored a.mode Fm a.mark a.area-1.now _ a.at c.in-Fm.is c.fm_string.ensures c.write_string.ensures.0 c.write_string.ensures.1
+    let both = mark_stored a.mode Fm a.mark a.area.now _ a.at c.in-Fm.is c.fm_string.ensures c.write_string.ensures.written c.write_string.ensures.behind in
+    record { written = both.0; behind = both.1 }
 
 pub returns-in-Mfm : goal.returns-in-Mfm
 returns-in-Mfm c =
     let a = c.args in
-    mark_stored a.mode Mfm a.mark a.area-1.now _ a.at c.in-Mfm.is c.mfm_string.ensures c.write_string-in-Mfm.ensures.0 c.write_string-in-Mfm.ensures.1
+    let w = c.write_string-in-Mfm.ensures in
+    let both = mark_stored a.mode Mfm a.mark a.area.now _ a.at c.in-Mfm.is c.mfm_string.ensures w.written w.behind in
+    record { written = both.0; behind = both.1 }

@@ -15,4 +15,4 @@ loop-i-preserved c =
     (search rules, simp length-set c.loop-i.invariant.1, c.loop-i.invariant.2 ∙ copy_turn _ _ _ _ c.loop-i-test.true)
 
 pub returns : goal.returns
-returns c = (sym (c.loop-i.invariant.2 ∙ copy_end _ _ _ _ c.loop-i-test.false), refl)
+returns c = record { written = sym (c.loop-i.invariant.2 ∙ copy_end _ _ _ _ c.loop-i-test.false); behind = refl }
