@@ -11,8 +11,8 @@ use Rattle.format.proofs.Parts.{length_numbers, numbered, natural}
 use Rattle.format.proofs.Accepted.{usable, accepted, in_natural_order}
 use Rattle.format.proofs.format.Goals as goal
 
-pub UNKNOWN-slice-bounds-write-track-end : goal.UNKNOWN-slice-bounds-write-track-end
-UNKNOWN-slice-bounds-write-track-end c =
+pub slice_bounds-write_track-end : goal.slice_bounds-write_track-end
+slice_bounds-write_track-end c =
     omega (arith, (usable c.args.layout).most, ap (λ (t : Track). t.layout.sectors) c.track_of-track.ensures)
 
 pub write_track-requires : goal.write_track-requires
@@ -24,8 +24,11 @@ write_track-requires c =
     let low = a.cylinders in
     let few = a.sides in
     rw c.track_of-track.ensures (
-      (record { cylinder = omega arith; side = omega arith; sectors = u.sectors; size = u.size; gaps = u.gaps }, record { slots = a.area; marked = a.marked }, a.whole),
-      (ap length n ∙ length_numbers l.sectors 1, subst (Every (Numbered l)) (sym n) (numbered l)),
+      record {
+        writable =
+            (record { cylinder = omega arith; side = omega arith; sectors = u.sectors; size = u.size; gaps = u.gaps }, record { slots = a.area; marked = a.marked }, a.whole);
+        order_len = (ap length n ∙ length_numbers l.sectors 1, subst (Every (Numbered l)) (sym n) (numbered l));
+      }
     )
 
 pub returns-in-Passed : goal.returns-in-Passed
@@ -40,5 +43,5 @@ returns-in-Passed c =
 
 pub returns-in_default : goal.returns-in_default
 returns-in_default c =
-    let image = c.args.image-1.now in
+    let image = c.args.image.now in
     record { answers = c.tested-tested.ensures; leaves = answer_refused _ (λ f. image) _ _ c.tested-tested.ensures _ c.in_default.is }
