@@ -1,5 +1,6 @@
 // The formatter: exactly the cells that ISO 7065-2 lays down for a track.
 #![tactic(auto)]
+
 ghost use Rattle.format.specs.Outcomes.{Formats};
 
 use calls::Checked;

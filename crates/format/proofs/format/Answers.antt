@@ -24,11 +24,11 @@ write_track-requires c =
     let low = a.cylinders in
     let few = a.sides in
     rw c.track_of-track.ensures (
-      record {
-        writable =
-            (record { cylinder = omega arith; side = omega arith; sectors = u.sectors; size = u.size; gaps = u.gaps }, record { slots = a.area; marked = a.marked }, a.whole);
-        order_len = (ap length n ∙ length_numbers l.sectors 1, subst (Every (Numbered l)) (sym n) (numbered l));
-      }
+    record {
+      writable =
+          (record { cylinder = omega arith; side = omega arith; sectors = u.sectors; size = u.size; gaps = u.gaps }, record { slots = a.area; marked = a.marked }, a.whole);
+      order_len = (ap length n ∙ length_numbers l.sectors 1, subst (Every (Numbered l)) (sym n) (numbered l));
+    }
     )
 
 pub returns-in-Passed : goal.returns-in-Passed

@@ -1,5 +1,5 @@
 -- `has_wrong_control` meets its contract: the sectors from i + 1 on tell what all tell.
-use Prim.Native.Nat.{ℕ, ◌+◌, ◌-◌}
+use Prim.Native.Nat.{ℕ, ◌+◌}
 use mathlib.Core.Bool.{true, false}
 use mathlib.Core.Path.{sym, ap, ◌∙◌}
 use native.Mathlib.Nat.{zero-add, sub-zero}

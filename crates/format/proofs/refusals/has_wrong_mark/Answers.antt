@@ -1,5 +1,4 @@
 -- `has_wrong_mark` meets its contract: the marks from i on tell what all tell.
-use Prim.Native.Nat.{◌-◌}
 use mathlib.Core.Path.{sym, ◌∙◌}
 use native.Mathlib.Omega.{arith}
 use Rattle.format.proofs.Judged.{one_refused, one_passed, marks_few, marks_each, some_hit, some_miss, some_end}

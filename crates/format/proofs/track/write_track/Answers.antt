@@ -58,13 +58,14 @@ write_sector-requires c =
 pub loop-i-preserved : goal.loop-i-preserved
 loop-i-preserved c =
     let width = 2 * c.sector_fields-stretch.result in
-    let inv = c.loop-i.invariant in (
+    let inv = c.loop-i.invariant in
+    let rest = left _ _ _ _ _ _ _ c.loop-i-test.true inv.1 inv.2 in (
       search rules,
       same_len_mid c.loop-i.start (c.loop-i.start + width - c.loop-i.start) c.loop-i.image c.write_sector.new.stretch c.write_sector.auto.stretch ∙ inv.1,
-      omega (arith, left _ _ _ _ _ _ _ c.loop-i-test.true c.loop-i.invariant.1 c.loop-i.invariant.2, inv.1),
+      omega (arith, rest, inv.1),
       inv.3
           ∙ sectors_turn c.args.track c.args.contents.now c.args.marks.now c.args.order.now c.requires.writable.1.slots c.requires.order_len.1 _ _ _ _ c.loop-i.i
-          c.loop-i-test.true (ap (λ (x : ℕ). 2 * x) c.sector_fields-stretch.ensures) (omega (arith, left _ _ _ _ _ _ _ c.loop-i-test.true c.loop-i.invariant.1 c.loop-i.invariant.2)) c.write_sector.ensures,
+          c.loop-i-test.true (ap (λ (x : ℕ). 2 * x) c.sector_fields-stretch.ensures) (omega (arith, rest)) c.write_sector.ensures,
     )
 
 pub write_run-requires : goal.write_run-requires

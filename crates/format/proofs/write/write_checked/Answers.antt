@@ -1,5 +1,4 @@
 -- `write_checked` meets its contract: what is left to code ends where the whole does.
-use Prim.Native.Nat.{◌-◌}
 use mathlib.Core.Path.{refl, ◌∙◌}
 use native.Mathlib.Nat.{add-zero}
 use Rattle.format.proofs.Writing.{bytes_turn, checked_done}
@@ -10,12 +9,11 @@ pub loop-i-init : goal.loop-i-init
 loop-i-init c = (search rules, refl, rw add-zero)
 
 pub loop-i-preserved : goal.loop-i-preserved
-loop-i-preserved c =
-    (
-      search rules,
-      c.write_pair.auto.area ∙ c.loop-i.invariant.1,
-      c.loop-i.invariant.2 ∙ bytes_turn _ _ _ _ _ _ _ _ _ c.loop-i-test.true c.write_pair.ensures c.coded.ensures,
-    )
+loop-i-preserved c = (
+  search rules,
+  c.write_pair.auto.area ∙ c.loop-i.invariant.1,
+  c.loop-i.invariant.2 ∙ bytes_turn _ _ _ _ _ _ _ _ _ c.loop-i-test.true c.write_pair.ensures c.coded.ensures,
+)
 
 pub returns : goal.returns
 returns c =

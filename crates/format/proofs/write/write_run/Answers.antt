@@ -1,5 +1,4 @@
 -- `write_run` meets its contract: its first byte, and the others, which are all coded alike.
-use Prim.Native.Nat.{◌-◌}
 use mathlib.Core.Path.{refl, ◌∙◌}
 use native.Mathlib.Omega.{arith}
 use Rattle.format.proofs.Writing.{pairs_turn, run_stored, run_none}
@@ -18,13 +17,12 @@ pub loop-i-init : goal.loop-i-init
 loop-i-init c = (search rules, search rules, refl, refl)
 
 pub loop-i-preserved : goal.loop-i-preserved
-loop-i-preserved c =
-    (
-      search rules,
-      search rules,
-      c.write_pair-in-loop-i.auto.area ∙ c.loop-i.invariant.2,
-      c.loop-i.invariant.3 ∙ pairs_turn _ _ _ _ _ _ c.loop-i-test.true c.write_pair-in-loop-i.ensures,
-    )
+loop-i-preserved c = (
+  search rules,
+  search rules,
+  c.write_pair-in-loop-i.auto.area ∙ c.loop-i.invariant.2,
+  c.loop-i.invariant.3 ∙ pairs_turn _ _ _ _ _ _ c.loop-i-test.true c.write_pair-in-loop-i.ensures,
+)
 
 pub returns : goal.returns
 returns c =

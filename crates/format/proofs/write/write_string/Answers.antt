@@ -1,5 +1,4 @@
 -- `write_string` meets its contract: what is left of the string ends where the whole does.
-use Prim.Native.Nat.{◌-◌}
 use mathlib.Core.Path.{refl, sym, ◌∙◌}
 use native.Mathlib.Nat.{add-zero}
 use lib.ListN.{length-set}
