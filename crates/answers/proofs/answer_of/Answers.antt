@@ -1,5 +1,6 @@
 -- `answer_of` meets its contract: each arm knows the number, and the last which numbers it is not.
 use mathlib.Core.Path.{sym, ap}
+use Rattle.std.proofs.Common.{arith}
 use Rattle.answers.specs.Answers.{answer_of}
 use Rattle.answers.proofs.Numbering.{answer_none}
 use Rattle.answers.proofs.answer_of.Goals as goal
@@ -42,6 +43,6 @@ returns-in-27 c = sym (ap answer_of c.in-27.is)
 
 pub returns-in_default : goal.returns-in_default
 returns-in_default c =
-    let r = c.in_default.rest in
-    let low = r.0.0.0.0.0.0 in
-    answer_none _ low.0.0.1 low.0.1 low.1 r.0.0.0.0.0.1 r.0.0.0.0.1 r.0.0.0.1 r.0.0.1 r.0.1 r.1
+    answer_none c.args.number
+    (λ e. omega arith) (λ e. omega arith) (λ e. omega arith) (λ e. omega arith) (λ e. omega arith)
+    (λ e. omega arith) (λ e. omega arith) (λ e. omega arith) (λ e. omega arith)
