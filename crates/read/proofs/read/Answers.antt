@@ -16,8 +16,8 @@ pub read_track-requires : goal.read_track-requires
 read_track-requires c =
     let a = c.args in
     let passes = told_passed _ _ c.read_tested-tested.ensures c.in-Passed.is in
-    let known = read_known a.layout a.cylinder a.side (length a.image.now) (length a.area-1.now) passes in
-    let whole = area_whole a.layout a.cylinder a.side (length a.image.now) (length a.area-1.now) passes in
+    let known = read_known a.layout a.cylinder a.side (length a.image.now) (length a.area.now) passes in
+    let whole = area_whole a.layout a.cylinder a.side (length a.image.now) (length a.area.now) passes in
     let t = c.track_of.ensures in (
       omega (arith, known.long),
       rw t (modest a.layout),
@@ -28,7 +28,7 @@ pub returns-in-Refused : goal.returns-in-Refused
 unfolding read_answer read_area
 returns-in-Refused c =
     let told = c.read_tested-tested.ensures in
-    let given = length c.args.area-1.now in
+    let given = length c.args.area.now in
     let refuses = c.in-Refused.is in
     record {
       answers = rw c.unread_records.ensures (answer_refused _ refused_reading _ _ told _ refuses);

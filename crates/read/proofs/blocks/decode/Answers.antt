@@ -14,10 +14,10 @@ pub overflow_add-result : goal.overflow_add-result
 overflow_add-result c =
     let a = c.args in
     let s = a.image.now in
-    let few : length a.slot-1.now ≤ 268435456 = omega (arith, c.requires.0) in
+    let few : length a.slot.now ≤ 268435456 = omega (arith, c.requires.0) in
     omega (
       arith,
-      (sum_fits a.mode (cell s) (cell_lt s) (last_bit a.mark) a.place (length a.slot-1.now) c.read_bytes-read.result.clocks few
+      (sum_fits a.mode (cell s) (cell_lt s) (last_bit a.mark) a.place (length a.slot.now) c.read_bytes-read.result.clocks few
           (rw c.last_bit.ensures at c.read_bytes-read.ensures.clocks)).1,
       c.read_byte-high.ensures.1,
     )
@@ -26,10 +26,10 @@ pub overflow_add-result-2 : goal.overflow_add-result-2
 overflow_add-result-2 c =
     let a = c.args in
     let s = a.image.now in
-    let few : length a.slot-1.now ≤ 268435456 = omega (arith, c.requires.0) in
+    let few : length a.slot.now ≤ 268435456 = omega (arith, c.requires.0) in
     omega (
       arith,
-      (sum_fits a.mode (cell s) (cell_lt s) (last_bit a.mark) a.place (length a.slot-1.now) c.read_bytes-read.result.clocks few
+      (sum_fits a.mode (cell s) (cell_lt s) (last_bit a.mark) a.place (length a.slot.now) c.read_bytes-read.result.clocks few
           (rw c.last_bit.ensures at c.read_bytes-read.ensures.clocks)).1,
       c.read_byte-high.ensures.1,
       c.read_byte-low.ensures.1,
@@ -39,12 +39,12 @@ pub returns : goal.returns
 returns c =
     let a = c.args in
     let s = a.image.now in
-    let k = length a.slot-1.now in
+    let k = length a.slot.now in
     let few : k ≤ 268435456 = omega (arith, c.requires.0) in
     let high = c.read_byte-high in
     let low = c.read_byte-low in
-    let slot = c.read_bytes-read.new.1.1.1.1.0 in
-    let long = c.read_bytes-read.auto.1.1.1.1.0 in
+    let slot = c.read_bytes-read.new.bytes in
+    let long = c.read_bytes-read.auto.bytes in
     let sum = (sum_fits a.mode (cell s) (cell_lt s) (last_bit a.mark) a.place k c.read_bytes-read.result.clocks few
     (rw c.last_bit.ensures at c.read_bytes-read.ensures.clocks)).0 in
     let byte = ap (λ (r : ReadByte). r.byte) high.ensures.0 in (

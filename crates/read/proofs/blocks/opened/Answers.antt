@@ -8,4 +8,4 @@ pub returns : goal.returns
 returns c =
     let decoded = c.decode-decoded in
     let cleared = c.refused.ensures in
-    (cleared.0, decoded.ensures.3, cleared.1 ∙ ap (λ (k : ℕ). replicate k 0) decoded.auto.1.1.1.1.0)
+    (cleared.0, decoded.ensures.3, cleared.1 ∙ ap (λ (k : ℕ). replicate k 0) decoded.auto.slot)

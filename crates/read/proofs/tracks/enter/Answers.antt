@@ -7,24 +7,24 @@ use Rattle.read.proofs.tracks.enter.Goals as goal
 pub overflow_mul-start : goal.overflow_mul-start
 overflow_mul-start c =
     let a = c.args in
-    let h = slot_room a.track.layout-1.size a.track.layout-1.sectors a.sector c.requires.2 c.requires.3 in
-    omega (arith, c.requires, c.well-formed)
+    let h = slot_room a.track.layout.size a.track.layout.sectors a.sector c.requires.2 c.requires.3 in
+    omega (arith, c.requires, c.well_formed)
 
 pub overflow_add-end : goal.overflow_add-end
 overflow_add-end c =
     let a = c.args in
-    let h = slot_room a.track.layout-1.size a.track.layout-1.sectors a.sector c.requires.2 c.requires.3 in
-    omega (arith, c.requires, c.well-formed)
+    let h = slot_room a.track.layout.size a.track.layout.sectors a.sector c.requires.2 c.requires.3 in
+    omega (arith, c.requires, c.well_formed)
 
-pub UNKNOWN-slice-bounds-next-record-end : goal.UNKNOWN-slice-bounds-next-record-end
-UNKNOWN-slice-bounds-next-record-end c =
+pub slice_bounds-next_record-end : goal.slice_bounds-next_record-end
+slice_bounds-next_record-end c =
     let a = c.args in
-    let h = slot_room a.track.layout-1.size a.track.layout-1.sectors a.sector c.requires.2 c.requires.3 in
-    omega (arith, c.requires, c.well-formed)
+    let h = slot_room a.track.layout.size a.track.layout.sectors a.sector c.requires.2 c.requires.3 in
+    omega (arith, c.requires, c.well_formed)
 
 pub returns : goal.returns
 returns c =
     let a = c.args in
-    let h = slot_room a.track.layout-1.size a.track.layout-1.sectors a.sector c.requires.2 c.requires.3 in
+    let h = slot_room a.track.layout.size a.track.layout.sectors a.sector c.requires.2 c.requires.3 in
     let e = c.next_record.ensures in
     (e.0, slot_put _ _ _ c.requires.1.2 _ _ _ _ _ e.1 (omega (arith, c.requires.5)))

@@ -1,11 +1,20 @@
 -- `read_track` meets its contract: each turn of its loop is a round of the walk.
 use borrow.Author.Rules.{rules}
-use mathlib.Core.Path.{sym, ap, ◌∙◌}
-use Prim.Native.Nat.{◌-◌, ◌*◌, ◌≤◌}
+use mathlib.Core.Path.{◌≡◌, sym, ap, ◌∙◌}
+use mathlib.Core.List.{List}
+use Prim.Native.Nat.{ℕ, ◌-◌, ◌*◌, ◌≤◌}
 use native.Mathlib.Omega.{arith}
 use lib.ListN.{length, set, length-replicate}
 use Rattle.cells.specs.Cells.{cell}
+use Rattle.layouts.specs.declared.Track.{Track}
+use Rattle.marks.specs.Outcomes.{Housed}
+use Rattle.walk.specs.Outcomes.{IsRound}
 use Rattle.walk.specs.Turns.{Placed}
+use Rattle.walk.specs.declared.Block.{Block}
+use Rattle.walk.specs.declared.Event.{Event}
+use Rattle.walk.specs.declared.Event.TheVariants.{Accepted}
+use Rattle.walk.specs.declared.Round.{Round}
+use Rattle.walk.specs.declared.Round.TheVariants.{Meets}
 use Rattle.answers.specs.Answers.{unanswered}
 use Rattle.read.specs.Turns.{Modest}
 use Rattle.answers.specs.declared.Record.{Record}
@@ -14,16 +23,13 @@ use Rattle.walk.proofs.Walking.{walk_past, walk_ends, walk_all, turn_left, turn_
 use Rattle.read.proofs.tracks.read_track.Goals as goal
 
 -- What is known of an accepted identifier: its sector is one of the track's, and its block has a place.
-known : (c : tie.After-event invariant-loop decreases-loop)
-    → let sector = c.in-Accepted.sector in
-    let started = c.args in
-    let l = started.track.layout-1 in
-    let image = started.image.now in
-    (1 ≤ sector) × (sector ≤ l.sectors) × Placed l.mode (cell image) (8 * length image) c.event-1.given.0.1.0 × Modest l
-known c =
-    let few : 8 * length c.args.image.now ≤ 2147483648 = omega (arith, c.requires.0) in
-    let k = turn_accepted _ _ _ _ _ _ _ _ _ c.next_round-round.ensures c.in-Meets.is c.in-Accepted.is few in
-    (k.0, k.1, k.2, c.requires.1)
+known : (t : Track) (image : List ℕ) (place q sector : ℕ) (r : Round) (x : Event) (block : Block) → Housed image → Modest t.layout → IsRound t image place r
+    → r ≡ Meets x q → x ≡ Accepted sector block
+    → (1 ≤ sector) × (sector ≤ t.layout.sectors) × Placed t.layout.mode (cell image) (8 * length image) block × Modest t.layout
+known t image place q sector r x block housed modest told meets is =
+    let few : 8 * length image ≤ 2147483648 = omega (arith, housed) in
+    let k = turn_accepted _ _ _ _ _ _ _ _ _ told meets is few in
+    (k.0, k.1, k.2, modest)
 
 pub loop-place-init : goal.loop-place-init
 loop-place-init c =
@@ -42,68 +48,68 @@ loop-place-preserved-in-Ends c =
 
 pub overflow_sub-known : goal.overflow_sub-known
 overflow_sub-known c =
-    let k = known c in
+    let k = known _ _ _ _ _ _ _ _ c.requires.0 c.requires.1 c.next_round-round.ensures c.in-Meets.is c.in-Accepted.is in
     k.0
 
 pub offset_bounds-answers-sector : goal.offset_bounds-answers-sector
 offset_bounds-answers-sector c =
-    let k = known c in
+    let k = known _ _ _ _ _ _ _ _ c.requires.0 c.requires.1 c.next_round-round.ensures c.in-Meets.is c.in-Accepted.is in
     omega (arith, k.1, k.3)
 
 pub bounds-answers-sector : goal.bounds-answers-sector
 bounds-answers-sector c =
-    let k = known c in
+    let k = known _ _ _ _ _ _ _ _ c.requires.0 c.requires.1 c.next_round-round.ensures c.in-Meets.is c.in-Accepted.is in
     omega (arith, k.0, k.1, k.3)
 
 pub enter-after-requires : goal.enter-after-requires
 enter-after-requires c =
     let s = c.requires in
-    let k = known c in
+    let k = known _ _ _ _ _ _ _ _ c.requires.0 c.requires.1 c.next_round-round.ensures c.in-Meets.is c.in-Accepted.is in
     (s.0, s.1, k.0, k.1, k.2, c.loop-place.invariant.2)
 
 pub overflow_sub-answers : goal.overflow_sub-answers
 overflow_sub-answers c =
-    let k = known c in
+    let k = known _ _ _ _ _ _ _ _ c.requires.0 c.requires.1 c.next_round-round.ensures c.in-Meets.is c.in-Accepted.is in
     k.0
 
 pub offset_bounds-answers-sector-in-Accepted : goal.offset_bounds-answers-sector-in-Accepted
 offset_bounds-answers-sector-in-Accepted c =
-    let k = known c in
+    let k = known _ _ _ _ _ _ _ _ c.requires.0 c.requires.1 c.next_round-round.ensures c.in-Meets.is c.in-Accepted.is in
     omega (arith, k.1, k.3)
 
 pub bounds-answers-sector-in-Accepted : goal.bounds-answers-sector-in-Accepted
 bounds-answers-sector-in-Accepted c =
-    let k = known c in
+    let k = known _ _ _ _ _ _ _ _ c.requires.0 c.requires.1 c.next_round-round.ensures c.in-Meets.is c.in-Accepted.is in
     omega (arith, k.0, k.1, k.3)
 
 pub overflow_sub-places : goal.overflow_sub-places
 overflow_sub-places c =
-    let k = known c in
+    let k = known _ _ _ _ _ _ _ _ c.requires.0 c.requires.1 c.next_round-round.ensures c.in-Meets.is c.in-Accepted.is in
     k.0
 
 pub offset_bounds-places-sector : goal.offset_bounds-places-sector
 offset_bounds-places-sector c =
-    let k = known c in
+    let k = known _ _ _ _ _ _ _ _ c.requires.0 c.requires.1 c.next_round-round.ensures c.in-Meets.is c.in-Accepted.is in
     omega (arith, k.1, k.3)
 
 pub bounds-places-sector : goal.bounds-places-sector
 bounds-places-sector c =
-    let k = known c in
+    let k = known _ _ _ _ _ _ _ _ c.requires.0 c.requires.1 c.next_round-round.ensures c.in-Meets.is c.in-Accepted.is in
     omega (arith, k.0, k.1, k.3)
 
 pub overflow_sub-clocks : goal.overflow_sub-clocks
 overflow_sub-clocks c =
-    let k = known c in
+    let k = known _ _ _ _ _ _ _ _ c.requires.0 c.requires.1 c.next_round-round.ensures c.in-Meets.is c.in-Accepted.is in
     k.0
 
 pub offset_bounds-clocks-sector : goal.offset_bounds-clocks-sector
 offset_bounds-clocks-sector c =
-    let k = known c in
+    let k = known _ _ _ _ _ _ _ _ c.requires.0 c.requires.1 c.next_round-round.ensures c.in-Meets.is c.in-Accepted.is in
     omega (arith, k.1, k.3)
 
 pub bounds-clocks-sector : goal.bounds-clocks-sector
 bounds-clocks-sector c =
-    let k = known c in
+    let k = known _ _ _ _ _ _ _ _ c.requires.0 c.requires.1 c.next_round-round.ensures c.in-Meets.is c.in-Accepted.is in
     omega (arith, k.0, k.1, k.3)
 
 pub loop-place-smaller-in-Bad : goal.loop-place-smaller-in-Bad
@@ -137,7 +143,7 @@ loop-place-smaller c =
 
 pub loop-place-preserved : goal.loop-place-preserved
 loop-place-preserved c =
-    let k = known c in
+    let k = known _ _ _ _ _ _ _ _ c.requires.0 c.requires.1 c.next_round-round.ensures c.in-Meets.is c.in-Accepted.is in
     let l = c.loop-place in
     let o = turn_onward _ _ _ _ _ _ _ _ c.next_round-round.ensures c.in-Meets.is c.in-Accepted.is in
     let e = c.enter-after in
@@ -146,10 +152,10 @@ loop-place-preserved c =
     c.loop-place-test.true in (
       o.1,
       omega (arith, o.0, l.invariant.1),
-      e.auto.1.1.1.1.1.0 ∙ l.invariant.2,
+      e.auto.area ∙ l.invariant.2,
       state_accepted _ _ _ l.invariant.3 _ _ unanswered left k.3.1 k.3.2 k.0 k.1
-          (ap (λ (r : Record). set l.answers-1 at (record { answer = r.answer })) e.ensures.0) (ap (λ (r : Record). set l.places-1 at r.place) e.ensures.0)
-          (ap (λ (r : Record). set l.clocks-1 at r.clocks-1) e.ensures.0) e.ensures.1,
+          (ap (λ (r : Record). set l.answers at (record { answer = r.answer })) e.ensures.0) (ap (λ (r : Record). set l.places at r.place) e.ensures.0)
+          (ap (λ (r : Record). set l.clocks at r.clocks) e.ensures.0) e.ensures.1,
     )
 
 pub shape_of-area : goal.shape_of-area
