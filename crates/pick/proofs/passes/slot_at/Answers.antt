@@ -10,19 +10,19 @@ pub overflow_mul-start : goal.overflow_mul-start
 overflow_mul-start c =
     let a = c.args in
     let h = slot_room a.layout.size a.layout.sectors a.sector c.requires.0 c.requires.1 in
-    omega (arith, c.requires, c.well-formed)
+    omega (arith, c.requires, c.well_formed)
 
 pub overflow_add-end : goal.overflow_add-end
 overflow_add-end c =
     let a = c.args in
     let h = slot_room a.layout.size a.layout.sectors a.sector c.requires.0 c.requires.1 in
-    omega (arith, c.requires, c.well-formed)
+    omega (arith, c.requires, c.well_formed)
 
-pub UNKNOWN-slice-bounds-result-end : goal.UNKNOWN-slice-bounds-result-end
-UNKNOWN-slice-bounds-result-end c =
+pub slice_bounds-result-end : goal.slice_bounds-result-end
+slice_bounds-result-end c =
     let a = c.args in
     let h = slot_room a.layout.size a.layout.sectors a.sector c.requires.0 c.requires.1 in
-    omega (arith, c.requires, c.well-formed)
+    omega (arith, c.requires, c.well_formed)
 
 pub returns : goal.returns
 returns c =
