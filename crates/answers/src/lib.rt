@@ -1,6 +1,7 @@
 // What a sector answers, where its mark is and how many of its clock cells are doubtful: its record; the numbers that the papers give the answers,
 // and what a whole block answers.
 #![tactic(auto)]
+
 ghost use Rattle.std.specs.Prelude.{◌≡◌, eqb};
 ghost use Rattle.marks.specs.Marks.{mark_byte};
 ghost use Rattle.marks.specs.declared.Mark.TheVariants.{Control};

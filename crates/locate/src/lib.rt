@@ -1,5 +1,6 @@
 // Where a sector's block is: the walk over a track, for the sake of one sector.
 #![tactic(auto)]
+
 ghost use Rattle.locate.specs.Outcomes.{Locates};
 
 use calls::{Checked, Refusal};

@@ -1,5 +1,6 @@
 // The pick of a sector from two passes over one track.
 #![tactic(auto)]
+
 ghost use Rattle.pick.specs.Picks.{IsChosen, IsPicked, IsStretch};
 
 use answers::{Record, Records};

@@ -1,5 +1,6 @@
 // The reader: what a track's image holds, sector by sector. What can't be read is reported.
 #![tactic(auto)]
+
 ghost use Rattle.std.specs.Prelude.{length};
 ghost use Rattle.read.specs.Outcomes.{Reads};
 

@@ -8,18 +8,18 @@ returns-then-defective c = rw (← c.is_control-control.ensures, c.if-defective.
 
 pub returns-then-not-right : goal.returns-then-not-right
 unfolding answer_after
-returns-then-not-right c = rw (← c.is_control-control.ensures, c.if-defective.false, c.if-not-right.true-raw)
+returns-then-not-right c = rw (← c.is_control-control.ensures, c.if-defective.false, c.if-not-right.true)
 
 pub returns-then-forbidden : goal.returns-then-forbidden
 unfolding answer_after
-returns-then-forbidden c = rw (← c.is_control-control.ensures, c.if-defective.false, c.if-not-right.false-raw, c.if-forbidden.true)
+returns-then-forbidden c = rw (← c.is_control-control.ensures, c.if-defective.false, c.if-not-right.false, c.if-forbidden.true)
 
 pub returns-then-control : goal.returns-then-control
 unfolding answer_after
 returns-then-control c =
-    rw (← c.is_control-control.ensures, c.if-defective.false, c.if-not-right.false-raw, c.if-forbidden.false, c.if-control.true)
+    rw (← c.is_control-control.ensures, c.if-defective.false, c.if-not-right.false, c.if-forbidden.false, c.if-control.true)
 
 pub returns : goal.returns
 unfolding answer_after
 returns c =
-    rw (← c.is_control-control.ensures, c.if-defective.false, c.if-not-right.false-raw, c.if-forbidden.false, c.if-control.false)
+    rw (← c.is_control-control.ensures, c.if-defective.false, c.if-not-right.false, c.if-forbidden.false, c.if-control.false)

@@ -1,7 +1,6 @@
 -- `locate_block` meets its contract: each turn of its loop is a round of the walk.
 use borrow.Author.Rules.{rules}
 use mathlib.Core.Path.{refl}
-use Prim.Native.Nat.{◌-◌}
 use native.Mathlib.Omega.{arith}
 use Rattle.locate.proofs.Seeking.{held_start, held_left, held_turn, held_end}
 use Rattle.walk.proofs.Walking.{walk_past, walk_ends, walk_all, turn_left, turn_onward}
