@@ -1,4 +1,4 @@
--- Where a sector's block is once one event more was met. (An aid of the code; the law `Located-after` says that it is the definition's. No promise
+-- Where a sector's block is once one event more was met. (An aid of the code; the law `located_after_lem` says that it is the definition's. No promise
 -- rests on it.)
 use Rattle.std.specs.Prelude.{cond, ℕ, eqb}
 use Rattle.walk.specs.declared.Block.{Block}

@@ -1,5 +1,5 @@
 -- What the reader does as it goes: how a block's bytes come into a slot, and what is known of a sector once one more of its identifiers was accepted.
--- (Aids of the code; the law `record-next` says that the latter is the definition's. No promise rests on them.)
+-- (Aids of the code; the law `record_next` says that the latter is the definition's. No promise rests on them.)
 use Rattle.std.specs.Prelude.{Bool, true, false, cond, List, ◌≡◌, ℕ, ◌+◌, ◌-◌, ◌*◌, ◌≤◌, length, get_or, replicate}
 use Rattle.std.proofs.lemmas.List.Edits.{sets}
 use Rattle.cells.specs.Cells.{cell, data_byte, data_bytes, bytes_clocks}
