@@ -1,18 +1,9 @@
 -- `step` meets its contract: the tests decide, and what passes them makes the one store that is next.
 use native.Mathlib.Omega.{arith}
 use Rattle.rewrite.proofs.Counted.{size_small}
-use Rattle.rewrite.proofs.Judged.{Accepted, accepted, store_within, refused_step, made_step}
+use Rattle.rewrite.proofs.Judged.{accepted, store_within, refused_step, made_step}
 use borrow.Author.Rules.{rules}
 use Rattle.rewrite.proofs.step.Goals as goal
-
--- What is known once the tests have passed.
-known : (c : tie.After-enum-told)
-    →
-    let a = c.args in
-    Accepted a.plan a.mark a.contents.now a.image.now c.layout_of-layout.result c.layout_of-layout.ensures c.plan_tests-tested.result
-    c.plan_tests-tested.ensures
-known c =
-    accepted _ _ _ _ _ c.layout_of-layout.ensures _ c.plan_tests-tested.ensures c.in_default.is
 
 pub plan_tests-tested-requires : goal.plan_tests-tested-requires
 plan_tests-tested-requires c = rw c.layout_of-layout.ensures (size_small _)
@@ -22,11 +13,11 @@ returns-in-Refused c =
     refused_step _ _ _ _ _ c.layout_of-layout.ensures _ c.plan_tests-tested.ensures _ c.in-Refused.is
 
 pub overflow_cast-mark : goal.overflow_cast-mark
-overflow_cast-mark c = omega (arith, (known c).byte)
+overflow_cast-mark c = let k = accepted _ _ _ _ _ c.layout_of-layout.ensures _ c.plan_tests-tested.ensures c.in_default.is in omega (arith, k.byte)
 
 pub store_of-store-requires : goal.store_of-store-requires
 store_of-store-requires c =
-    let k = known c in
+    let k = accepted _ _ _ _ _ c.layout_of-layout.ensures _ c.plan_tests-tested.ensures c.in_default.is in
     ((k.whole, k.small), (search rules, k.within))
 
 pub bounds-image-at : goal.bounds-image-at
@@ -35,7 +26,7 @@ bounds-image-at c =
     _ c.store_of-store.ensures
 
 pub overflow_add-result : goal.overflow_add-result
-overflow_add-result c = omega (arith, (known c).few)
+overflow_add-result c = let k = accepted _ _ _ _ _ c.layout_of-layout.ensures _ c.plan_tests-tested.ensures c.in_default.is in omega (arith, k.few)
 
 pub returns : goal.returns
 returns c =
