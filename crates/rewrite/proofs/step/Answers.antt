@@ -18,7 +18,7 @@ overflow_cast-mark c = let k = accepted _ _ _ _ _ c.layout_of-layout.ensures _ c
 pub store_of-store-requires : goal.store_of-store-requires
 store_of-store-requires c =
     let k = accepted _ _ _ _ _ c.layout_of-layout.ensures _ c.plan_tests-tested.ensures c.in_default.is in
-    ((k.whole, k.small), (search rules, k.within))
+    record { contents_len = (k.whole, k.small); place_bound = (search rules, k.within) }
 
 pub bounds-image-at : goal.bounds-image-at
 bounds-image-at c =

@@ -1,7 +1,6 @@
 -- `plan_tests` meets its contract: each test gives its refusal where the ones before it have passed.
 use mathlib.Core.Path.{◌∙◌}
 use native.Mathlib.Omega.{arith}
-use borrow.Author.Tests.{not-true, not-false}
 use Rattle.calls.proofs.Refusals.{then_refused, then_passed}
 use Rattle.rewrite.specs.Refusals.{plan_tests}
 use Rattle.rewrite.proofs.Judged.{handed, no_block, finished, unfinished}
@@ -35,20 +34,20 @@ returns-in_default-byte c =
 
 pub holds_block-requires : goal.holds_block-requires
 holds_block-requires c =
-    let s = handed _ _ _ _ _ _ _ _ _ c.layout_number-number.ensures c.in-Passed.is c.image_length-length.ensures c.in-Passed-length.is c.area_length-area.ensures c.in-Passed-area.is c.mark_byte-byte.ensures c.in-Passed-byte.is in
+    let s = handed c.args.layout c.args.plan c.args.mark c.args.contents.now c.args.image.now _ _ _ _ c.layout_number-number.ensures c.in-Passed.is c.image_length-length.ensures c.in-Passed-length.is c.area_length-area.ensures c.in-Passed-area.is c.mark_byte-byte.ensures c.in-Passed-byte.is in
     (omega (arith, s.short), search rules, search rules)
 
 pub returns-then-not-holds_block : goal.returns-then-not-holds_block
-returns-then-not-holds_block c = no_block _ _ _ _ _ (handed _ _ _ _ _ _ _ _ _ c.layout_number-number.ensures c.in-Passed.is c.image_length-length.ensures c.in-Passed-length.is c.area_length-area.ensures c.in-Passed-area.is c.mark_byte-byte.ensures c.in-Passed-byte.is) _ c.holds_block.ensures (not-true _ c.if-not-holds_block.true)
+returns-then-not-holds_block c = no_block _ _ _ _ _ (handed c.args.layout c.args.plan c.args.mark c.args.contents.now c.args.image.now _ _ _ _ c.layout_number-number.ensures c.in-Passed.is c.image_length-length.ensures c.in-Passed-length.is c.area_length-area.ensures c.in-Passed-area.is c.mark_byte-byte.ensures c.in-Passed-byte.is) _ c.holds_block.ensures c.if-not-holds_block.true
 
 pub returns-then-count-made : goal.returns-then-count-made
 returns-then-count-made c =
-    finished _ _ _ _ _ (handed _ _ _ _ _ _ _ _ _ c.layout_number-number.ensures c.in-Passed.is c.image_length-length.ensures c.in-Passed-length.is c.area_length-area.ensures c.in-Passed-area.is c.mark_byte-byte.ensures c.in-Passed-byte.is) _ c.holds_block.ensures (not-false _ c.if-not-holds_block.false) _
+    finished _ _ _ _ _ (handed c.args.layout c.args.plan c.args.mark c.args.contents.now c.args.image.now _ _ _ _ c.layout_number-number.ensures c.in-Passed.is c.image_length-length.ensures c.in-Passed-length.is c.area_length-area.ensures c.in-Passed-area.is c.mark_byte-byte.ensures c.in-Passed-byte.is) _ c.holds_block.ensures c.if-not-holds_block.false _
     c.count_of-count.ensures
     c.if-count-made.true
 
 pub returns : goal.returns
 returns c =
-    unfinished _ _ _ _ _ (handed _ _ _ _ _ _ _ _ _ c.layout_number-number.ensures c.in-Passed.is c.image_length-length.ensures c.in-Passed-length.is c.area_length-area.ensures c.in-Passed-area.is c.mark_byte-byte.ensures c.in-Passed-byte.is) _ c.holds_block.ensures (not-false _ c.if-not-holds_block.false) _
+    unfinished _ _ _ _ _ (handed c.args.layout c.args.plan c.args.mark c.args.contents.now c.args.image.now _ _ _ _ c.layout_number-number.ensures c.in-Passed.is c.image_length-length.ensures c.in-Passed-length.is c.area_length-area.ensures c.in-Passed-area.is c.mark_byte-byte.ensures c.in-Passed-byte.is) _ c.holds_block.ensures c.if-not-holds_block.false _
     c.count_of-count.ensures
     c.if-count-made.false

@@ -17,12 +17,12 @@ ended l place k e = omega (arith, mark_last_lem l.mode)
 
 pub returns-then-made-eq0 : goal.returns-then-made-eq0
 returns-then-made-eq0 c =
-    opened _ c.args.image.now _ _ c.args.contents.now c.requires.contents_len.0 _ (ended _ _ _ c.mark_bytes.ensures.0) _ _
+    opened _ c.args.image.now _ _ c.args.contents.now c.requires.contents_len.0 _ (ended c.args.layout c.args.place _ c.mark_bytes.ensures.0) _ _
     c.if-made-eq0.true c.last_byte.ensures
 
 pub returns-then-made-contents : goal.returns-then-made-contents
 returns-then-made-contents c =
-    coded_in _ c.args.image.now _ _ c.args.contents.now c.requires.contents_len.0 _ (ended _ _ _ c.mark_bytes.ensures.0) _
+    coded_in _ c.args.image.now _ _ c.args.contents.now c.requires.contents_len.0 _ (ended c.args.layout c.args.place _ c.mark_bytes.ensures.0) _
     _ c.if-made-eq0.false c.if-made-contents.true c.coded_byte.ensures
 
 pub overflow_add-made : goal.overflow_add-made
@@ -37,16 +37,16 @@ overflow_add-after c =
 
 pub bounds-image-after : goal.bounds-image-after
 bounds-image-after c =
-    after_within _ c.args.image.now _ (mark_of c.args.mark) c.args.contents.now c.requires.contents_len.0 _ (ended _ _ _ c.mark_bytes.ensures.0) _
+    after_within _ c.args.image.now _ (mark_of c.args.mark) c.args.contents.now c.requires.contents_len.0 _ (ended c.args.layout c.args.place _ c.mark_bytes.ensures.0) _
     c.if-made-contents.false c.requires.place_bound.1 _ c.count_of.ensures c.if-made-count_of.true
 
 pub returns-then-made-count_of : goal.returns-then-made-count_of
 returns-then-made-count_of c =
-    joined_in _ c.args.image.now _ _ c.args.contents.now c.requires.contents_len.0 _ (ended _ _ _ c.mark_bytes.ensures.0) _
+    joined_in _ c.args.image.now _ _ c.args.contents.now c.requires.contents_len.0 _ (ended c.args.layout c.args.place _ c.mark_bytes.ensures.0) _
     c.if-made-contents.false c.requires.place_bound.1 _ c.count_of.ensures _ c.if-made-count_of.true
     c.joined.ensures
 
 pub returns : goal.returns
 returns c =
-    closed _ c.args.image.now _ _ c.args.contents.now c.requires.contents_len.0 _ (ended _ _ _ c.mark_bytes.ensures.0) _
+    closed _ c.args.image.now _ _ c.args.contents.now c.requires.contents_len.0 _ (ended c.args.layout c.args.place _ c.mark_bytes.ensures.0) _
     c.if-made-contents.false c.requires.place_bound.1 _ c.count_of.ensures _ c.if-made-count_of.false (rw (← c.mark_of.ensures) c.last_byte-2.ensures)
