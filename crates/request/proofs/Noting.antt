@@ -1,14 +1,11 @@
 -- Laws of a request: the plan or the refusal that a located block gives, and what the tests before and after the walk say together.
 use mathlib.Core.Path.{◌≡◌, refl, sym, ap, ◌∙◌}
 use mathlib.Core.Bool.{false}
-use mathlib.Core.List.{List, [], ◌∷◌}
-use mathlib.Core.Logic.{⊎_elim}
+use mathlib.Core.List.{List}
 use Prim.Native.Nat.{ℕ, ◌*◌, ◌%◌, ◌<◌}
 use native.Mathlib.Omega.{arith}
 use borrow.Author.Tests.{eq-eqb, ne_eqb}
 use lib.ListN.{length}
-use types.Run.{OneOf}
-use denote.Enum.Declared.{tag_of}
 use Rattle.cells.specs.Cells.{cell}
 use Rattle.calls.specs.Refusals.{told}
 use Rattle.layouts.specs.Tracks.{track_of}
@@ -24,8 +21,6 @@ use Rattle.walk.specs.declared.Block.{Block}
 use Rattle.walk.specs.declared.Block.TheVariants.{Missing, Beyond, Within}
 use Rattle.locate.specs.declared.Located.{Located}
 use Rattle.locate.specs.declared.Located.TheVariants as located
-use Rattle.walk.specs.contracts.Block.{the_type as BlockType}
-use Rattle.locate.specs.contracts.Located.{the_type as LocatedType}
 use Rattle.walk.proofs.Passing.{readable}
 use Rattle.locate.proofs.Fitting.{located_within}
 use Rattle.request.specs.Refusals.{call_tests, is_within, cell_of, place_tests, request_tests}
@@ -35,19 +30,19 @@ use Rattle.request.specs.declared.Requested.TheVariants as request
 
 -- ---- 10 and 11
 
--- What is none of these is no block within the image; the code tells by the number of the variant.
-pub not_single : (place : Located) → OneOf (0 ∷ 2 ∷ 3 ∷ []) (tag_of LocatedType place) → is_within place ≡ false
+-- What is no single block, or no block within the image.
+pub not_single : (place : Located) → ((block : Block) → place ≡ located.Single block → ⊥) → is_within place ≡ false
 unfolding is_within
 not_single located.Unmet h = refl
-not_single (located.Single block) h = absurd (⊎_elim (λ e. omega arith) (⊎_elim (λ e. omega arith) (λ e. omega arith)) h)
+not_single (located.Single block) h = absurd (h block refl)
 not_single located.Doubled h = refl
 not_single (located.Refused f) h = refl
 
-pub not_within : (block : Block) → OneOf (0 ∷ 1 ∷ []) (tag_of BlockType block) → is_within (located.Single block) ≡ false
+pub not_within : (block : Block) → ((cell : ℕ) → block ≡ Within cell → ⊥) → is_within (located.Single block) ≡ false
 unfolding is_within
 not_within Missing h = refl
 not_within (Beyond m) h = refl
-not_within (Within m) h = absurd (⊎_elim (λ e. omega arith) (λ e. omega arith) h)
+not_within (Within m) h = absurd (h m refl)
 
 -- What a request answers that has come as far as the walk.
 abbrev placed : ℕ → Located → Requested

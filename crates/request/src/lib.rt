@@ -1,5 +1,6 @@
 // The request for the rewrite of a sector: a plan that notes where its block is, by which the steps then make their stores.
 #![tactic(auto)]
+
 ghost use Rattle.request.specs.Outcomes.{Requests};
 
 use calls::{Checked, Refusal};

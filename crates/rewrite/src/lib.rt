@@ -1,6 +1,7 @@
 // The rewrite of a sector's block, one store at a time, so that one that is cut off anywhere leaves every other sector as it was. A plan
 // notes the block's place; each step is handed the mark and the bytes again, and trusts nothing of its plan.
 #![tactic(auto)]
+
 ghost use Rattle.rewrite.specs.Outcomes.{CountsStores, Steps};
 
 use calls::{Checked, Refusal};

@@ -15,11 +15,11 @@ at_block : (located : Located) (block : Block) (cell : ℕ) → located ≡ Sing
 at_block located block cell e f = e ∙ ap Single f
 
 pub returns-in_default : goal.returns-in_default
-returns-in_default c = not_located c.args.layout _ (not_single c.args.located-1 c.in_default.keys2)
+returns-in_default c = not_located c.args.layout _ (not_single c.args.located c.in_default.not-Single)
 
 pub returns-in_default-block : goal.returns-in_default-block
 returns-in_default-block c =
-    not_located c.args.layout _ (ap is_within c.in-Single.is ∙ not_within c.in-Single.block-1 c.in_default-block.keys2)
+    not_located c.args.layout _ (ap is_within c.in-Single.is ∙ not_within c.in-Single.block c.in_default-block.not-Within)
 
 pub returns-then-cell-ne0 : goal.returns-then-cell-ne0
 returns-then-cell-ne0 c = off_boundary _ _ _ (at_block _ _ _ c.in-Single.is c.in-Within.is) c.if-cell-ne0.true

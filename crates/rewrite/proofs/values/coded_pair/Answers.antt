@@ -11,11 +11,11 @@ returns-then-i-contents c =
 pub returns-then-i-contents-2 : goal.returns-then-i-contents-2
 returns-then-i-contents-2 c =
     let p = upper_coded c.args.mode (mark_of c.args.mark) c.args.contents.now c.args.i _ c.edc_of-register.ensures _ c.coded-then-i-contents-2.result
-            c.if-i-contents-2.true c.bit_before-then-i-contents-2.ensures.0 c.coded-then-i-contents-2.ensures in
+    c.if-i-contents-2.true c.bit_before-then-i-contents-2.ensures.0 c.coded-then-i-contents-2.ensures in
     record { first_value = p.0; second_value = p.1 }
 
 pub returns : goal.returns
 returns c =
     let p = lower_coded c.args.mode (mark_of c.args.mark) c.args.contents.now c.args.i _ c.edc_of-register.ensures c.coded-2.result
-            c.if-i-contents.false c.if-i-contents-2.false c.requires c.coded-2.ensures in
+    c.if-i-contents.false c.if-i-contents-2.false c.requires c.coded-2.ensures in
     record { first_value = p.0; second_value = p.1 }
