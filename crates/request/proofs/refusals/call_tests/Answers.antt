@@ -33,7 +33,10 @@ returns-in_default c =
 
 pub returns-in_default-number : goal.returns-in_default-number
 unfolding call_tests
-returns-in_default-number c = then_refused _ _ _ (located c.args.layout c.args.cylinder c.args.side c.args.length c.args.sector _ _ _ c.track_and_image-first.ensures c.in-Passed.is c.layout_of-taken.ensures c.sector_number-number.ensures) _ c.in_default-number.is
+returns-in_default-number c =
+    let e = located c.args.layout c.args.cylinder c.args.side c.args.length c.args.sector _ _ _ c.track_and_image-first.ensures c.in-Passed.is
+    c.layout_of-taken.ensures c.sector_number-number.ensures in
+    then_refused _ _ _ e _ c.in_default-number.is
 
 pub contents_tests-requires : goal.contents_tests-requires
 contents_tests-requires c = rw c.layout_of-taken.ensures (size_some _)
@@ -42,6 +45,8 @@ pub returns : goal.returns
 unfolding call_tests
 returns c =
     let a = c.args in
+    let e = located c.args.layout c.args.cylinder c.args.side c.args.length c.args.sector _ _ _ c.track_and_image-first.ensures c.in-Passed.is
+    c.layout_of-taken.ensures c.sector_number-number.ensures in
     c.contents_tests.ensures
     ∙ ap (λ (l : Layout). told (refusal (contents_tests l a.cylinder a.mark a.contents.now))) c.layout_of-taken.ensures
-    ∙ then_passed _ _ _ (located c.args.layout c.args.cylinder c.args.side c.args.length c.args.sector _ _ _ c.track_and_image-first.ensures c.in-Passed.is c.layout_of-taken.ensures c.sector_number-number.ensures) c.in-Passed-number.is
+    ∙ then_passed _ _ _ e c.in-Passed-number.is

@@ -32,22 +32,31 @@ returns-in_default-byte c =
     ∙ then_passed _ _ _ c.image_length-length.ensures c.in-Passed-length.is
     ∙ then_passed _ _ _ c.layout_number-number.ensures c.in-Passed.is
 
+-- Below, `handed` says what is known once 4, 1, 5 and 6 have passed.
 pub holds_block-requires : goal.holds_block-requires
 holds_block-requires c =
-    let s = handed c.args.layout c.args.plan c.args.mark c.args.contents.now c.args.image.now _ _ _ _ c.layout_number-number.ensures c.in-Passed.is c.image_length-length.ensures c.in-Passed-length.is c.area_length-area.ensures c.in-Passed-area.is c.mark_byte-byte.ensures c.in-Passed-byte.is in
+    let s = handed c.args.layout c.args.plan c.args.mark c.args.contents.now c.args.image.now _ _ _ _ c.layout_number-number.ensures
+    c.in-Passed.is c.image_length-length.ensures c.in-Passed-length.is c.area_length-area.ensures c.in-Passed-area.is
+    c.mark_byte-byte.ensures c.in-Passed-byte.is in
     (omega (arith, s.short), search rules, search rules)
 
 pub returns-then-not-holds_block : goal.returns-then-not-holds_block
-returns-then-not-holds_block c = no_block _ _ _ _ _ (handed c.args.layout c.args.plan c.args.mark c.args.contents.now c.args.image.now _ _ _ _ c.layout_number-number.ensures c.in-Passed.is c.image_length-length.ensures c.in-Passed-length.is c.area_length-area.ensures c.in-Passed-area.is c.mark_byte-byte.ensures c.in-Passed-byte.is) _ c.holds_block.ensures c.if-not-holds_block.true
+returns-then-not-holds_block c =
+    let s = handed c.args.layout c.args.plan c.args.mark c.args.contents.now c.args.image.now _ _ _ _ c.layout_number-number.ensures
+    c.in-Passed.is c.image_length-length.ensures c.in-Passed-length.is c.area_length-area.ensures c.in-Passed-area.is
+    c.mark_byte-byte.ensures c.in-Passed-byte.is in
+    no_block _ _ _ _ _ s _ c.holds_block.ensures c.if-not-holds_block.true
 
 pub returns-then-count-made : goal.returns-then-count-made
 returns-then-count-made c =
-    finished _ _ _ _ _ (handed c.args.layout c.args.plan c.args.mark c.args.contents.now c.args.image.now _ _ _ _ c.layout_number-number.ensures c.in-Passed.is c.image_length-length.ensures c.in-Passed-length.is c.area_length-area.ensures c.in-Passed-area.is c.mark_byte-byte.ensures c.in-Passed-byte.is) _ c.holds_block.ensures c.if-not-holds_block.false _
-    c.count_of-count.ensures
-    c.if-count-made.true
+    let s = handed c.args.layout c.args.plan c.args.mark c.args.contents.now c.args.image.now _ _ _ _ c.layout_number-number.ensures
+    c.in-Passed.is c.image_length-length.ensures c.in-Passed-length.is c.area_length-area.ensures c.in-Passed-area.is
+    c.mark_byte-byte.ensures c.in-Passed-byte.is in
+    finished _ _ _ _ _ s _ c.holds_block.ensures c.if-not-holds_block.false _ c.count_of-count.ensures c.if-count-made.true
 
 pub returns : goal.returns
 returns c =
-    unfinished _ _ _ _ _ (handed c.args.layout c.args.plan c.args.mark c.args.contents.now c.args.image.now _ _ _ _ c.layout_number-number.ensures c.in-Passed.is c.image_length-length.ensures c.in-Passed-length.is c.area_length-area.ensures c.in-Passed-area.is c.mark_byte-byte.ensures c.in-Passed-byte.is) _ c.holds_block.ensures c.if-not-holds_block.false _
-    c.count_of-count.ensures
-    c.if-count-made.false
+    let s = handed c.args.layout c.args.plan c.args.mark c.args.contents.now c.args.image.now _ _ _ _ c.layout_number-number.ensures
+    c.in-Passed.is c.image_length-length.ensures c.in-Passed-length.is c.area_length-area.ensures c.in-Passed-area.is
+    c.mark_byte-byte.ensures c.in-Passed-byte.is in
+    unfinished _ _ _ _ _ s _ c.holds_block.ensures c.if-not-holds_block.false _ c.count_of-count.ensures c.if-count-made.false
