@@ -1,8 +1,11 @@
 -- `track_numbers` meets its contract: each return follows from the tests that led to it, in their order.
+use Prim.Native.Nat.{◌≤◌}
+use native.Mathlib.Omega.{arith}
 use borrow.Author.Tests.{lt-ltb, le-ltb}
 use Rattle.verdicts.specs.Tests.{refusal, by}
 use Rattle.calls.specs.Refusals.{told}
 use Rattle.layouts.specs.Refusals.{track_tests}
+use Rattle.layouts.specs.Tracks.{highest_cylinder}
 use Rattle.layouts.proofs.track_numbers.Goals as goal
 
 pub returns-then-cylinder-gt-HIGHEST_CYLINDER : goal.returns-then-cylinder-gt-HIGHEST_CYLINDER
@@ -11,7 +14,9 @@ returns-then-cylinder-gt-HIGHEST_CYLINDER c = rw (lt-ltb _ _ c.if-cylinder-gt-HI
 
 pub returns-then-side-gt-HIGHEST_SIDE : goal.returns-then-side-gt-HIGHEST_SIDE
 unfolding refusal told by track_tests
-returns-then-side-gt-HIGHEST_SIDE c = rw (le-ltb _ _ c.if-cylinder-gt-HIGHEST_CYLINDER.false, lt-ltb _ _ c.if-side-gt-HIGHEST_SIDE.true)
+returns-then-side-gt-HIGHEST_SIDE c =
+    let within : c.args.cylinder ≤ highest_cylinder = omega arith in
+    rw (le-ltb _ _ within, lt-ltb _ _ c.if-side-gt-HIGHEST_SIDE.true)
 
 pub returns : goal.returns
 unfolding refusal told by track_tests
