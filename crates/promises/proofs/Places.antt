@@ -81,6 +81,7 @@ module _ (t : Track) (image : List ℕ) where
       plain (inl d) o k = d
       plain (inr (inl d)) o k = absurd (clash cc)
       plain (inr (inr (inl d))) o k = absurd (clash cc)
+      plain (inr (inr (inr n))) o k = elim n [ ]
 
       -- after a control mark all answers but 1, and after a data mark 1 and 26
       after_control : (first : ℕ) (right : Bool) → stands t.layout.mode c n Control m ≡ true
