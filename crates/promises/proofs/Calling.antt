@@ -1,14 +1,14 @@
 -- Demand 3 at the doors: a chain of calls of `station_step` is a run of steps.
 use mathlib.Core.Path.{◌≡◌, refl, sym, ap, ap₂, subst, ◌∙◌}
 use mathlib.Core.List.{List}
-use Prim.Native.Nat.{ℕ, zero, suc, ◌-◌, ◌≤◌}
+use Prim.Native.Nat.{ℕ, suc, ◌≤◌}
 use borrow.Author.Tests.{le-ltb}
 use lib.ListN.{length}
 use Rattle.format.specs.Outcomes.{Formats}
 use Rattle.format.specs.Refusals.{format_tests}
 use Rattle.layouts.specs.Layouts.{highest, layout_of}
 use Rattle.calls.specs.Refusals.{refusal_number}
-use Rattle.calls.specs.declared.Checked.TheVariants.{Passed, Refused}
+use Rattle.calls.specs.declared.Checked.TheVariants.{Passed}
 use Rattle.marks.specs.Marks.{mark_of}
 use Rattle.calls.proofs.Refusals.{told_passing, numbers_apart}
 use Rattle.rewrite.specs.Outcomes.{stores_in_all, step_answer}

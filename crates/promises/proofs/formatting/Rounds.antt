@@ -10,16 +10,15 @@ use native.Mathlib.Omega.{arith}
 use lib.Dec.{eqb}
 use lib.ListN.{length, get_or}
 use borrow.Author.Tests.{eq-eqb, le-leb}
-use Rattle.cells.specs.Cells.{octet, data_byte, data_bytes}
+use Rattle.cells.specs.Cells.{data_byte, data_bytes}
 use Rattle.cells.specs.declared.Mode.{Mode}
 use Rattle.edc.specs.Register.{edc_of}
 use Rattle.edc.proofs.Laws.{edc_closes}
 use Rattle.format.specs.Order.{checked, Numbered, address}
 use Rattle.layouts.specs.Layouts.{Every}
 use Rattle.layouts.specs.Layouts.{sector_fields}
-use Rattle.layouts.specs.declared.Layout.{Layout}
 use Rattle.layouts.specs.declared.Track.{Track}
-use Rattle.marks.specs.Marks.{string, mark_byte, covered, spells, lies, stands}
+use Rattle.marks.specs.Marks.{string, mark_byte, covered, lies, stands}
 use Rattle.search.specs.Search.{among, standing, is_standing, first_mark, sought}
 use Rattle.marks.specs.declared.Mark.{Mark}
 use Rattle.marks.specs.declared.Mark.TheVariants.{Index, Identifier, Data, Control, Open}
