@@ -1,58 +1,57 @@
 // Prints what a file of a read cartridge holds, from the standard input: its label, a line for each track with the answers of its sectors, and how much
 // there is of each. The data are counted only, so a file may be longer than what is kept of it.
 #![tactic(auto)]
+
 ghost use Rattle.std.specs.Prelude.{◌+◌, ◌≤◌, max, length};
 
 use file::{Judged, Section, Sections, TRACK_WIDTH};
-use libc::STDOUT_FILENO;
+use std::io;
 use streams::Input;
 
 // Reads on behind the bytes that have come, and only counts them: until there is a byte more than the data, the input ends or a read fails. How many
 // are left over is not asked, so that an input without an end is refused too.
-fn read_rest(start: usize, data: Section) -> Input {
-    let mut buffer = io::large_buffer();
+fn read_rest(stdin: &impl io::Input, start: usize, data: Section) -> Input {
+    let mut buffer = streams::large_buffer();
     let wanted = data.place as usize + data.count as usize;
     let mut end = start;
     while end <= wanted {
-        let more = streams::read_some(&mut buffer);
+        let more = streams::read_some(stdin, &mut buffer);
         if more.end == 0 {
             return Input {
-                end: end,
+                end,
                 broken: more.broken,
             };
         }
         end += more.end;
     }
-    Input {
-        end: end,
-        broken: false,
-    }
+    Input { end, broken: None }
 }
 
 // How many bytes the file has, where its first ones filled the buffer. One whose head is refused is so whatever follows: no more is read.
-fn count_all(head: Judged, start: usize) -> Input {
+fn count_all(stdin: &impl io::Input, head: Judged, start: usize) -> Input {
     match head {
         Judged::Refused(_) => Input {
             end: start,
-            broken: false,
+            broken: None,
         },
-        Judged::Found(found) => read_rest(start, found.data),
+        Judged::Found(found) => read_rest(stdin, start, found.data),
     }
 }
 
-// A number behind a word. This and all that prints answers whether it went out.
-fn print_number(word: &[u8], number: u32) -> bool {
-    io::write_all(STDOUT_FILENO, word) && io::print_decimal(STDOUT_FILENO, number as u64)
+// A number behind a word. This and all that prints fails where that does not go out.
+fn print_number(rt: &impl Print, word: &[u8], number: u32) -> io::Result<()> {
+    rt.write_all(word)?;
+    print!(rt; "{number}")
 }
 
 // The number that a byte is, behind a word.
-fn print_byte(word: &[u8], byte: u8) -> bool {
-    print_number(word, byte as u32)
+fn print_byte(rt: &impl Print, word: &[u8], byte: u8) -> io::Result<()> {
+    print_number(rt, word, byte as u32)
 }
 
 // The end of a line.
-fn print_end() -> bool {
-    io::write_all(STDOUT_FILENO, b"\n")
+fn print_end(rt: &impl Print) -> io::Result<()> {
+    rt.write_all(b"\n")
 }
 
 // So many bytes from a place on, as far as they are there. (Those of a section that was found all are.)
@@ -70,45 +69,47 @@ fn part<'a>(bytes: &'a [u8], start: usize, count: usize) -> &'a [u8]
 }
 
 // A byte of the label. One that is no plain character goes out as its number: what a file holds must not move a terminal.
-fn print_label_byte(byte: u8) -> bool {
+fn print_label_byte(rt: &impl Print, byte: u8) -> io::Result<()> {
     if (byte < b' ') | (b'~' < byte) | (byte == b'"') | (byte == b'\\') {
-        return io::write_all(STDOUT_FILENO, b"\\x") && io::print_hex(STDOUT_FILENO, byte as u64, 2);
+        return print!(rt; "\\x{byte:02x}");
     }
-    io::write_all(STDOUT_FILENO, &[byte])
+    rt.write_all(&[byte])
 }
 
 // The bytes of the label.
-fn print_label(label: &[u8]) -> bool {
+fn print_label(rt: &impl Print, label: &[u8]) -> io::Result<()> {
     let mut index = 0;
     while index < label.len() {
-        if !print_label_byte(label[index]) {
-            return false;
-        }
+        print_label_byte(rt, label[index])?;
         index += 1;
     }
-    true
+    Ok(())
 }
 
 // The answers of a track.
-fn print_answers(answers: &[u8]) -> bool {
+fn print_answers(rt: &impl Print, answers: &[u8]) -> io::Result<()> {
     let mut index = 0;
     while index < answers.len() {
-        if !print_byte(b" ", answers[index]) {
-            return false;
-        }
+        print_byte(rt, b" ", answers[index])?;
         index += 1;
     }
-    true
+    Ok(())
 }
 
 // A line for a track: its numbers, and the answers of its sectors in order of their numbers.
-fn print_track(cylinder: u8, side: u8, layout: u8, answers: &[u8]) -> bool {
-    print_byte(b"cylinder ", cylinder)
-        && print_byte(b" side ", side)
-        && print_byte(b" layout ", layout)
-        && io::write_all(STDOUT_FILENO, b":")
-        && print_answers(answers)
-        && print_end()
+fn print_track(
+    rt: &impl Print,
+    cylinder: u8,
+    side: u8,
+    layout: u8,
+    answers: &[u8],
+) -> io::Result<()> {
+    print_byte(rt, b"cylinder ", cylinder)?;
+    print_byte(rt, b" side ", side)?;
+    print_byte(rt, b" layout ", layout)?;
+    rt.write_all(b":")?;
+    print_answers(rt, answers)?;
+    print_end(rt)
 }
 
 // How many sectors a track of the layout has.
@@ -118,7 +119,7 @@ fn sectors_of(layout: u8) -> usize {
 }
 
 // The lines of all tracks.
-fn print_tracks(tracks: &[u8], answers: &[u8]) -> bool {
+fn print_tracks(rt: &impl Print, tracks: &[u8], answers: &[u8]) -> io::Result<()> {
     let count = tracks.len() / TRACK_WIDTH;
     let mut at = 0;
     let mut index = 0;
@@ -127,17 +128,15 @@ fn print_tracks(tracks: &[u8], answers: &[u8]) -> bool {
         let side = tracks[TRACK_WIDTH * index + 1];
         let layout = tracks[TRACK_WIDTH * index + 2];
         let here = part(answers, at, sectors_of(layout));
-        if !print_track(cylinder, side, layout, here) {
-            return false;
-        }
+        print_track(rt, cylinder, side, layout, here)?;
         at += here.len();
         index += 1;
     }
-    true
+    Ok(())
 }
 
 // All that is printed of a file. The counts stand last: where they do, nothing before them is missing.
-fn print_sections(file: &[u8], found: Sections) -> bool {
+fn print_sections(rt: &impl Print, file: &[u8], found: Sections) -> io::Result<()> {
     let label = part(file, found.label.place as usize, found.label.count as usize);
     let tracks = part(
         file,
@@ -149,39 +148,41 @@ fn print_sections(file: &[u8], found: Sections) -> bool {
         found.answers.place as usize,
         found.answers.count as usize,
     );
-    io::write_all(STDOUT_FILENO, b"label \"")
-        && print_label(label)
-        && io::write_all(STDOUT_FILENO, b"\"\n")
-        && print_tracks(tracks, answers)
-        && print_number(b"tracks ", found.tracks.count)
-        && print_number(b", sectors ", found.answers.count)
-        && print_number(b", data bytes ", found.data.count)
-        && print_end()
+    rt.write_all(b"label \"")?;
+    print_label(rt, label)?;
+    rt.write_all(b"\"\n")?;
+    print_tracks(rt, tracks, answers)?;
+    print_number(rt, b"tracks ", found.tracks.count)?;
+    print_number(rt, b", sectors ", found.answers.count)?;
+    print_number(rt, b", data bytes ", found.data.count)?;
+    print_end(rt)
 }
 
 // What came of the file, or of what is kept of it.
-fn print_judged(file: &[u8], judged: Judged) -> bool {
+fn print_judged(rt: &impl Print, file: &[u8], judged: Judged) -> io::Result<()> {
     match judged {
         Judged::Refused(refusal) => {
-            print_byte(b"refused ", file::refusal_number(refusal)) && print_end()
+            print_byte(rt, b"refused ", file::refusal_number(refusal))?;
+            print_end(rt)
         }
-        Judged::Found(found) => print_sections(file, found),
+        Judged::Found(found) => print_sections(rt, file, found),
     }
 }
 
-fn main() {
+fn main(rt: HostRuntime) {
+    let stderr = (rt.stderr(), rt.alloc());
     // longer than any head, which is all that is kept of a file that is longer still
-    let mut buffer = io::large_buffer();
-    let mut input = streams::read_input(&mut buffer);
+    let mut buffer = streams::large_buffer();
+    let mut input = streams::read_input(&rt, &mut buffer);
     let end = input.end;
     let head = file::head(&buffer[..end]);
     if end == buffer.len() {
-        input = count_all(head, end);
+        input = count_all(&rt, head, end);
     }
-    if input.broken {
-        streams::tell_broken(b"cartridge-file", input.end);
+    if let Some(why) = input.broken {
+        streams::tell_broken(&stderr, b"cartridge-file", input.end, why);
         return;
     }
-    let printed = print_judged(&buffer[..end], file::whole(head, input.end));
-    streams::tell_lost(b"cartridge-file", printed);
+    let printed = print_judged(&rt, &buffer[..end], file::whole(head, input.end));
+    streams::tell_lost(&stderr, b"cartridge-file", printed);
 }

@@ -1,57 +1,65 @@
 // Prints what a track holds: layout, cylinder and side, one byte each, and then the image, from the standard input.
 #![tactic(auto)]
+
 ghost use Rattle.std.specs.Prelude.{◌≤◌};
 
 use answers::Records;
 use layouts::MOST_SECTORS;
-use libc::STDOUT_FILENO;
 use read::Reading;
+use std::io;
 
-// A number and the byte behind it. This and all that prints answers whether it went out.
-fn print_number(number: u64, behind: u8) -> bool {
-    io::print_decimal(STDOUT_FILENO, number) && io::write_all(STDOUT_FILENO, &[behind])
+// A number and the byte behind it. This and all that prints fails where that does not go out.
+fn print_number(rt: &impl Print, number: u64, behind: u8) -> io::Result<()> {
+    print!(rt; "{number}")?;
+    rt.write_all(&[behind])
 }
 
 // Two numbers behind a word, as a line.
-fn print_line(first: u64, second: u64) -> bool {
-    print_number(first, b' ') && print_number(second, b'\n')
+fn print_line(rt: &impl Print, first: u64, second: u64) -> io::Result<()> {
+    print_number(rt, first, b' ')?;
+    print_number(rt, second, b'\n')
 }
 
 // The number of a refused call.
-fn print_refusal(number: u8) -> bool {
-    io::write_all(STDOUT_FILENO, b"refused ") && print_number(number as u64, b'\n')
+fn print_refusal(rt: &impl Print, number: u8) -> io::Result<()> {
+    rt.write_all(b"refused ")?;
+    print_number(rt, number as u64, b'\n')
 }
 
 // A line for each sector of the track: its number and its answer.
-fn print_answers(sectors: usize, records: Records) -> bool {
+fn print_answers(rt: &impl Print, sectors: usize, records: Records) -> io::Result<()> {
     let mut index = 0;
     while index < MOST_SECTORS {
         if index < sectors {
             let answered = records.answers[index];
             let answer = answered.answer;
             let number = answers::answer_number(answer);
-            if !print_line(index as u64 + 1, number as u64) {
-                return false;
-            }
+            print_line(rt, index as u64 + 1, number as u64)?;
         }
         index += 1;
     }
-    true
+    Ok(())
 }
 
 // What the call answered for the track.
-fn print_reading(layout: u8, cylinder: u8, side: u8, reading: Reading) -> bool {
+fn print_reading(
+    rt: &impl Print,
+    layout: u8,
+    cylinder: u8,
+    side: u8,
+    reading: Reading,
+) -> io::Result<()> {
     let verdict = reading.verdict;
     if let calls::Checked::Refused(refusal) = verdict {
-        return print_refusal(calls::refusal_number(refusal));
+        return print_refusal(rt, calls::refusal_number(refusal));
     }
     let records = reading.records;
-    io::write_all(STDOUT_FILENO, b"track ")
-        && print_number(cylinder as u64, b' ')
-        && print_line(side as u64, layout as u64)
-        && print_answers(reading.sectors, records)
-        && io::write_all(STDOUT_FILENO, b"idents ")
-        && print_line(reading.bad as u64, reading.foreign as u64)
+    rt.write_all(b"track ")?;
+    print_number(rt, cylinder as u64, b' ')?;
+    print_line(rt, side as u64, layout as u64)?;
+    print_answers(rt, reading.sectors, records)?;
+    rt.write_all(b"idents ")?;
+    print_line(rt, reading.bad as u64, reading.foreign as u64)
 }
 
 // How long the layout's data area is. A layout that there is none of is refused, whatever the area.
@@ -63,7 +71,13 @@ fn area_bytes(layout: u8) -> usize
 }
 
 // Reads the track and prints it.
-fn print_track(layout: u8, cylinder: u8, side: u8, image: &[u8]) -> bool {
+fn print_track(
+    rt: &impl Print,
+    layout: u8,
+    cylinder: u8,
+    side: u8,
+    image: &[u8],
+) -> io::Result<()> {
     let mut area = [0u8; 8192];
     let end = area_bytes(layout);
     let reading = read::read(
@@ -73,22 +87,23 @@ fn print_track(layout: u8, cylinder: u8, side: u8, image: &[u8]) -> bool {
         image,
         &mut area[0..end],
     );
-    print_reading(layout, cylinder, side, reading)
+    print_reading(rt, layout, cylinder, side, reading)
 }
 
-fn main() {
+fn main(rt: HostRuntime) {
+    let stderr = (rt.stderr(), rt.alloc());
     // longer than any image that is read, so that one too long is seen to be
-    let mut buffer = io::large_buffer();
-    let input = streams::read_input(&mut buffer);
+    let mut buffer = streams::large_buffer();
+    let input = streams::read_input(&rt, &mut buffer);
     let end = input.end;
-    if input.broken {
-        streams::tell_broken(b"dump", end);
+    if let Some(why) = input.broken {
+        streams::tell_broken(&stderr, b"dump", end, why);
         return;
     }
     if end < 3 {
-        streams::tell_lost(b"dump", print_refusal(1));
+        streams::tell_lost(&stderr, b"dump", print_refusal(&rt, 1));
         return;
     }
-    let printed = print_track(buffer[0], buffer[1], buffer[2], &buffer[3..end]);
-    streams::tell_lost(b"dump", printed);
+    let printed = print_track(&rt, buffer[0], buffer[1], buffer[2], &buffer[3..end]);
+    streams::tell_lost(&stderr, b"dump", printed);
 }

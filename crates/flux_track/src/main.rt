@@ -1,11 +1,12 @@
 // Makes an image of a capture, and writes what dump reads. The input has the track's layout, cylinder and side, one byte each, the ticks of a nominal
 // cell, and the stamps of the flux transitions; ticks and stamps have four bytes each, most significant first.
 #![tactic(auto)]
+
 ghost use Rattle.std.specs.Prelude.{◌≡◌, ◌+◌, ◌*◌, ◌≤◌, length};
 
 use calls::LONGEST_IMAGE;
 use flux::{Laid, Refusal};
-use libc::{STDERR_FILENO, STDOUT_FILENO};
+use std::io;
 
 // The bytes of layout, cylinder and side.
 const TRACK_BYTES: usize = 3;
@@ -45,22 +46,23 @@ fn take_stamps(bytes: &[u8], stamps: &mut [u32])
     }
 }
 
-// The number of the refusal, and that of the interval where there is one. This and all that prints answers whether it went out.
-fn print_refusal(refusal: Refusal) -> bool {
+// The number of the refusal, and that of the interval where there is one. This and all that prints fails where that does not go out.
+fn print_refusal(rt: &impl Print, refusal: Refusal) -> io::Result<()> {
     let interval = flux::interval_number(refusal);
-    io::write_all(STDOUT_FILENO, b"refused ")
-        && io::print_decimal(STDOUT_FILENO, flux::refusal_number(refusal) as u64)
-        && (interval == 0
-            || (io::write_all(STDOUT_FILENO, b" ") && io::print_decimal(STDOUT_FILENO, interval)))
-        && io::write_all(STDOUT_FILENO, b"\n")
+    print!(rt; "refused {}", flux::refusal_number(refusal))?;
+    if interval != 0 {
+        print!(rt; " {interval}")?;
+    }
+    println!(rt)
 }
 
 // The three bytes that name the track, and those of the image that hold cells.
-fn print_track(track: &[u8], cells: u64, image: &[u8]) -> bool
+fn print_track(rt: &impl Print, track: &[u8], cells: u64, image: &[u8]) -> io::Result<()>
     requires { (cells ≤ 8 * length image.now) × (length image.now ≤ 24576) }
 {
     let end = (cells as usize + 7) / 8;
-    io::write_all(STDOUT_FILENO, track) && io::write_all(STDOUT_FILENO, &image[..end])
+    rt.write_all(track)?;
+    rt.write_all(&image[..end])
 }
 
 // Room for the longest image that is read.
@@ -71,12 +73,12 @@ fn all_cells() -> [u8; LONGEST_IMAGE]
 }
 
 // What came of the capture.
-fn print_capture(track: &[u8], ticks: u32, stamps: &[u32]) -> bool {
+fn print_capture(rt: &impl Print, track: &[u8], ticks: u32, stamps: &[u32]) -> io::Result<()> {
     let mut image = all_cells();
     let laid = flux::lay(ticks, stamps, &mut image);
     match laid {
-        Laid::Refused(refusal) => print_refusal(refusal),
-        Laid::Cells(cells) => print_track(track, cells, &image),
+        Laid::Refused(refusal) => print_refusal(rt, refusal),
+        Laid::Cells(cells) => print_track(rt, track, cells, &image),
     }
 }
 
@@ -95,50 +97,52 @@ fn all_stamps() -> [u32; MOST_STAMPS]
 }
 
 // What came of the capture whose stamps the bytes hold; `stamps` has room for them.
-fn print_stamps(track: &[u8], ticks: u32, bytes: &[u8], stamps: &mut [u32]) -> bool
+fn print_stamps(
+    rt: &impl Print,
+    track: &[u8],
+    ticks: u32,
+    bytes: &[u8],
+    stamps: &mut [u32],
+) -> io::Result<()>
     requires { 4 * length stamps.old ≤ length bytes.now }
 {
     take_stamps(bytes, stamps);
-    print_capture(track, ticks, stamps)
+    print_capture(rt, track, ticks, stamps)
 }
 
 // What came of the input, from its first byte to its last.
-fn print_input(bytes: &[u8]) -> bool
+fn print_input(rt: &impl Print, bytes: &[u8]) -> io::Result<()>
     requires { (7 ≤ length bytes.now) × (length bytes.now ≤ 393227) }
 {
     let mut stamps = all_stamps();
     let count = (bytes.len() - HEAD_BYTES) / WIDTH;
     let ticks = number_at(bytes, TRACK_BYTES);
     let track = &bytes[..TRACK_BYTES];
-    print_stamps(track, ticks, &bytes[HEAD_BYTES..], &mut stamps[..count])
+    print_stamps(rt, track, ticks, &bytes[HEAD_BYTES..], &mut stamps[..count])
 }
 
 // Says that the last stamp is not there as a whole: something of the capture is lost.
-fn tell_cut(end: usize) {
-    io::write_all(
-        STDERR_FILENO,
-        b"flux: the input ends within a stamp, after so many bytes: ",
-    );
-    io::print_decimal(STDERR_FILENO, end as u64);
-    io::write_all(STDERR_FILENO, b"\n");
+fn tell_cut(rt: &impl Eprint, end: usize) {
+    let _ = eprintln!(rt; "flux: the input ends within a stamp, after so many bytes: {end}");
 }
 
-fn main() {
+fn main(rt: HostRuntime) {
+    let stderr = (rt.stderr(), rt.alloc());
     let mut bytes = all_bytes();
-    let input = streams::read_input(&mut bytes);
+    let input = streams::read_input(&rt, &mut bytes);
     let end = input.end;
-    if input.broken {
-        streams::tell_broken(b"flux", end);
+    if let Some(why) = input.broken {
+        streams::tell_broken(&stderr, b"flux", end, why);
         return;
     }
     if end < HEAD_BYTES {
-        streams::tell_lost(b"flux", print_refusal(Refusal::TicksNumber));
+        streams::tell_lost(&stderr, b"flux", print_refusal(&rt, Refusal::TicksNumber));
         return;
     }
     if (end - HEAD_BYTES) % WIDTH != 0 {
-        tell_cut(end);
+        tell_cut(&rt, end);
         return;
     }
-    let printed = print_input(&bytes[..end]);
-    streams::tell_lost(b"flux", printed);
+    let printed = print_input(&rt, &bytes[..end]);
+    streams::tell_lost(&stderr, b"flux", printed);
 }

@@ -1,71 +1,94 @@
 // What the programs share of their streams: the standard input is read to its end or until the buffer is full, and a stream that fails is told of.
 // What the system answers to a read and a write is tested by bin/test-scripts; no proof speaks of it.
 #![tactic(auto)]
-ghost use Rattle.io.specs.Counts.{IsPrefixLen};
 
-use libc::{STDERR_FILENO, STDIN_FILENO};
+ghost use Rattle.std.specs.Prelude.{◌≡◌, length};
+ghost use Rattle.streams.specs.Counts.{IsPrefixLen};
+
+use std::io;
+use std::io::Read;
 
 // What came of the input.
 #[derive(Clone, Copy)]
 pub struct Input {
     // how many bytes
     pub end: usize,
-    // whether a read failed behind them; else they are all there is, or all that is asked for
-    pub broken: bool,
+    // why a read failed behind them, if one did; else they are all there is, or all that is asked for
+    pub broken: Option<io::Error>,
+}
+
+// Room for what is read at a time, and for what is kept of an input.
+pub fn large_buffer() -> [u8; 65536]
+    ensures { 65536 ≡ length result }
+{
+    [0; 65536]
 }
 
 // One read into the buffer.
-pub fn read_some(buffer: &mut [u8]) -> Input
+pub fn read_some(stdin: &impl io::Input, buffer: &mut [u8]) -> Input
     ensures { IsPrefixLen result.«end» buffer.new }
 {
-    let got = libc::read(STDIN_FILENO, buffer);
-    Input {
-        end: io::count(got, buffer),
-        broken: got < 0,
+    match stdin.reader().read(buffer) {
+        Ok(end) => Input { end, broken: None },
+        Err(why) => Input {
+            end: 0,
+            broken: Some(why),
+        },
     }
 }
 
 // Reads until the buffer is full, the input ends or a read fails.
-pub fn read_input(buffer: &mut [u8]) -> Input
+pub fn read_input(stdin: &impl io::Input, buffer: &mut [u8]) -> Input
     ensures { IsPrefixLen result.«end» buffer.new }
 {
     let mut end = 0;
     while end < buffer.len() {
-        let more = read_some(&mut buffer[end..]);
+        let more = read_some(stdin, &mut buffer[end..]);
         if more.end == 0 {
             return Input {
-                end: end,
+                end,
                 broken: more.broken,
             };
         }
         end += more.end;
     }
-    Input {
-        end: end,
-        broken: false,
-    }
+    Input { end, broken: None }
 }
 
 // The program's name, before what it has to say.
-fn name(program: &[u8]) {
-    io::write_all(STDERR_FILENO, program);
-    io::write_all(STDERR_FILENO, b": ");
+fn name(stderr: &impl Print, program: &[u8]) -> io::Result<()> {
+    stderr.write_all(program)?;
+    stderr.write_all(b": ")
 }
 
-// Says why a read failed, and how far it came.
-pub fn tell_broken(program: &[u8], end: usize) {
-    name(program);
-    os::fail(b"the input could not be read");
-    name(program);
-    io::write_all(STDERR_FILENO, b"bytes read before that: ");
-    io::print_decimal(STDERR_FILENO, end as u64);
-    io::write_all(STDERR_FILENO, b"\n");
+// What the system says of an error. std puts the error's number behind that.
+fn words(text: &str) -> &str {
+    match text.split_once(" (os error ") {
+        Some((words, _number)) => words,
+        None => text,
+    }
+}
+
+// Says what failed, and why in the system's words: with no memory for those, as std has them.
+fn fail(stderr: &(impl Print + Alloc), what: &str, why: io::Error) -> io::Result<()> {
+    match why.to_string(stderr.alloc()) {
+        Ok(text) => println!(stderr; "{what}: {}", words(&text)),
+        Err(_) => println!(stderr; "{what}: {why}"),
+    }
+}
+
+// Says why a read failed, and how far it came. Nothing can be done where that can't be said; the same holds below.
+pub fn tell_broken(stderr: &(impl Print + Alloc), program: &[u8], end: usize, why: io::Error) {
+    let _ = name(stderr, program);
+    let _ = fail(stderr, "the input could not be read", why);
+    let _ = name(stderr, program);
+    let _ = println!(stderr; "bytes read before that: {end}");
 }
 
 // Says so where some of the output is lost.
-pub fn tell_lost(program: &[u8], printed: bool) {
-    if !printed {
-        name(program);
-        os::fail(b"the output could not be written");
+pub fn tell_lost(stderr: &(impl Print + Alloc), program: &[u8], printed: io::Result<()>) {
+    if let Err(why) = printed {
+        let _ = name(stderr, program);
+        let _ = fail(stderr, "the output could not be written", why);
     }
 }

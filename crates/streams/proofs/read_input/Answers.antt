@@ -5,7 +5,7 @@ use mathlib.Core.List.{List}
 use lib.ListN.{length}
 use lib.Seq.{length-take-le}
 use borrow.Author.Rules.{rules}
-use Rattle.io.specs.Counts.{IsPrefixLen}
+use Rattle.streams.specs.Counts.{IsPrefixLen}
 use Rattle.streams.proofs.read_input.Goals as goal
 
 -- A number within the list counts bytes at its start.
@@ -13,7 +13,7 @@ counts : (n : ℕ) → (xs : List ℕ) → n ≤ length xs → IsPrefixLen n xs
 counts n xs h = (h, sym (length-take-le n xs h))
 
 pub returns-then-more-eq0 : goal.returns-then-more-eq0
-returns-then-more-eq0 c = counts _ _ (search rules)
+returns-then-more-eq0 g c = counts _ _ (search rules)
 
 pub returns : goal.returns
-returns c = counts _ _ (search rules)
+returns g c = counts _ _ (search rules)

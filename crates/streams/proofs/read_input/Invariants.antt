@@ -5,7 +5,7 @@ use lib.ListN.{length}
 use Rattle.streams.proofs.read_input.Given as goal
 
 abbrev pub invariant-loop-end : goal.invariant-loop-end
-invariant-loop-end l = (l.end ≤ length l.buffer) × (length l.buffer ≡ length l.initial.buffer)
+invariant-loop-end g l = (l.end ≤ length l.buffer) × (length l.buffer ≡ length l.initial.buffer)
 
 abbrev pub decreases-loop-end : goal.decreases-loop-end
-decreases-loop-end l = length l.buffer - l.end
+decreases-loop-end g l = length l.buffer - l.end
