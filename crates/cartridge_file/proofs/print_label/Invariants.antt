@@ -4,7 +4,7 @@ use lib.ListN.{length}
 use Rattle.cartridge_file.proofs.print_label.Given as goal
 
 abbrev pub invariant-loop-index : goal.invariant-loop-index
-invariant-loop-index l = l.index ≤ length l.label
+invariant-loop-index g l = l.index ≤ length l.label
 
 abbrev pub decreases-loop-index : goal.decreases-loop-index
-decreases-loop-index l = length l.label - l.index
+decreases-loop-index g l = length l.label - l.index

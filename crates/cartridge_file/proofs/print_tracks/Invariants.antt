@@ -4,7 +4,7 @@ use lib.ListN.{length}
 use Rattle.cartridge_file.proofs.print_tracks.Given as goal
 
 abbrev pub invariant-loop-index : goal.invariant-loop-index
-invariant-loop-index l = (3 * l.count ≤ length l.tracks) × (l.at ≤ length l.answers)
+invariant-loop-index g l = (3 * l.count ≤ length l.tracks) × (l.at ≤ length l.answers)
 
 abbrev pub decreases-loop-index : goal.decreases-loop-index
-decreases-loop-index l = l.count - l.index
+decreases-loop-index g l = l.count - l.index

@@ -5,7 +5,7 @@ use lib.ListN.{length}
 use Rattle.cartridge_file.proofs.read_rest.Given as goal
 
 abbrev pub invariant-loop-end : goal.invariant-loop-end
-invariant-loop-end l = (l.wanted ≤ 8589934590) × (length l.buffer ≡ 65536)
+invariant-loop-end g l = (l.wanted ≤ 8589934590) × (length l.buffer ≡ 65536)
 
 abbrev pub decreases-loop-end : goal.decreases-loop-end
-decreases-loop-end l = suc l.wanted - l.end
+decreases-loop-end g l = suc l.wanted - l.end

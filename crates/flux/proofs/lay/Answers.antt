@@ -6,7 +6,7 @@ use Rattle.flux.proofs.lay.Goals as goal
 pub returns-in-Refused : goal.returns-in-Refused
 returns-in-Refused c =
     let all = c.lay_all-answer in
-    cleared _ _ _ _ _ _ _ all.ensures c.in-Refused.is (c.clear.ensures ∙ ap (λ (k : ℕ). replicate k 0) all.auto.1.1.0)
+    cleared _ _ _ _ _ _ _ all.ensures c.in-Refused.is (c.clear.ensures ∙ ap (λ (k : ℕ). replicate k 0) all.auto.image)
 
 pub returns-in_default : goal.returns-in_default
 returns-in_default c = kept _ _ _ _ _ _ c.lay_all-answer.ensures c.in_default.is

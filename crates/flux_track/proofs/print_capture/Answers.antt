@@ -6,7 +6,7 @@ use Rattle.flux.proofs.Whole.{cells_fit}
 use Rattle.flux_track.proofs.print_capture.Goals as goal
 
 pub print_track-requires : goal.print_track-requires
-print_track-requires c =
+print_track-requires g c =
     let l = c.lay-laid in
     let room = c.all_cells-image in
     let told = c.laid-in-Cells-1.given in

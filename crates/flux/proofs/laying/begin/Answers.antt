@@ -5,8 +5,8 @@ use Rattle.flux.proofs.laying.begin.Goals as goal
 
 pub shape_of-image : goal.shape_of-image
 shape_of-image c =
-    ap length (begun c.args.image-1.now _ c.requires c.clear.ensures) ∙ length_octets _ 0 (length c.args.image-1.now)
+    ap length (begun c.args.image.now _ c.requires c.clear.ensures) ∙ length_octets _ 0 (length c.args.image.now)
 
 pub returns : goal.returns
 returns c =
-    begun c.args.image-1.now _ c.requires c.clear.ensures
+    begun c.args.image.now _ c.requires c.clear.ensures

@@ -10,7 +10,7 @@ pub overflow_sub-number : goal.overflow_sub-number
 overflow_sub-number c = c.loop-number.invariant.first
 
 pub offset_bounds-stamps-number : goal.offset_bounds-stamps-number
-offset_bounds-stamps-number c = omega (arith, c.loop-number-test.true, c.well-formed)
+offset_bounds-stamps-number c = omega (arith, c.loop-number-test.true, c.well_formed)
 
 pub half_cells-halves-requires : goal.half_cells-halves-requires
 half_cells-halves-requires c =
@@ -26,7 +26,7 @@ returns-then-halves-eq0 c =
 
 pub overflow_add-place : goal.overflow_add-place
 overflow_add-place c =
-    omega (arith, c.half_cells-halves.ensures.1, c.loop-number.invariant.near, c.loop-number-test.true, c.well-formed)
+    omega (arith, c.half_cells-halves.ensures.1, c.loop-number.invariant.near, c.loop-number-test.true, c.well_formed)
 
 pub shape_of-image-then-image-place : goal.shape_of-image-then-image-place
 shape_of-image-then-image-place c = c.loop-number.invariant.long
@@ -58,11 +58,11 @@ pub loop-number-preserved : goal.loop-number-preserved
 loop-number-preserved c =
     let t = c.loop-number.invariant in
     turn_more t _ _ c.loop-number-test.true c.ticks_between-interval.ensures c.half_cells-halves.ensures.0 c.if-halves-eq0.false
-    c.half_cells-halves.ensures.1 (omega (arith, c.if-image-place.false, t.long)) c.put_one.ensures c.renew-all_ticks.ensures.0 c.renew-all_ticks.ensures.1
-    c.renew-all_halves.ensures.0 c.renew-all_halves.ensures.1
+    c.half_cells-halves.ensures.1 (omega (arith, c.if-image-place.false, t.long)) c.put_one.ensures c.renew-all_ticks.ensures.kept c.renew-all_ticks.ensures.sum
+    c.renew-all_halves.ensures.kept c.renew-all_halves.ensures.sum
 
 pub overflow_add-result : goal.overflow_add-result
-overflow_add-result c = omega (arith, c.loop-number.invariant.near, c.loop-number.invariant.last, c.well-formed)
+overflow_add-result c = omega (arith, c.loop-number.invariant.near, c.loop-number.invariant.last, c.well_formed)
 
 pub shape_of-image : goal.shape_of-image
 shape_of-image c = c.loop-number.invariant.long

@@ -12,4 +12,4 @@ returns c =
     let k = c.args.number % 8 in
     let p = part_of_total l k in
     let e = total_set l k c.args.new (omega (arith, c.requires.0)) in
-    (refl, omega (arith, p, e, c.requires))
+    record { kept = refl; sum = omega (arith, p, e, c.requires) }
