@@ -9,6 +9,6 @@ pub print_track-requires : goal.print_track-requires
 print_track-requires g c =
     let l = c.lay-laid in
     let room = c.all_cells-image in
-    let told = c.laid-in-Cells-1.given in
-    let fit : told.0.0 ≤ 8 * length room.result = cells_fit _ _ _ _ told.0.0 _ l.ensures told.1 in
-    (omega (arith, fit, l.auto.1.1.0), omega (arith, room.ensures, l.auto.1.1.0))
+    let cells = c.in-Cells.cells in
+    let fit : cells ≤ 8 * length room.result = cells_fit _ _ _ _ cells _ l.ensures c.in-Cells.is in
+    (omega (arith, fit, l.auto.image), omega (arith, room.ensures, l.auto.image))
