@@ -1,6 +1,7 @@
 // Flux timings: a capture is the time stamps of a track's flux transitions, from a counter of 32 bits that runs over, and gives the cells of the track.
 // The speed is followed over the last eight intervals.
 #![tactic(auto)]
+
 ghost use Rattle.std.specs.Prelude.{length};
 ghost use Rattle.flux.specs.Outcomes.{IsRefusalNumber, IsIntervalNumber, Lays};
 

@@ -1,5 +1,5 @@
 -- `read_input` ends, and its count lies within the buffer: each read that moves something leaves less of it.
-use Prim.Native.Nat.{ℕ, ◌-◌, ◌≤◌}
+use Prim.Native.Nat.{ℕ, ◌≤◌}
 use mathlib.Core.Path.{sym}
 use mathlib.Core.List.{List}
 use lib.ListN.{length}

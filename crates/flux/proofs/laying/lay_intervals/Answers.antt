@@ -1,5 +1,5 @@
 -- `lay_intervals` meets its contract: what is left of the intervals leads where all of them do.
-use Rattle.std.proofs.Common.{◌-◌, arith}
+use Rattle.std.proofs.Common.{arith}
 use Rattle.flux.proofs.Turns.{last_most, turn_start, turn_zero, turn_past, turn_more, turn_end}
 use Rattle.flux.proofs.laying.lay_intervals.Goals as goal
 
