@@ -19,6 +19,6 @@ returns c =
     record {
       numbered = c.checked_number.ensures ∙ ap (λ (x : Reading). checked_number x.verdict) r.answers ∙ ap checked_number (read_told _ _ _ _ _) ∙ number_told _;
       leaves = r.leaves;
-      recorded = c.list_sectors.ensures ∙ ap (λ (x : Reading). record_list x.sectors x.records-1) r.answers;
+      recorded = c.list_sectors.ensures ∙ ap (λ (x : Reading). record_list x.sectors x.records) r.answers;
       counted = ap (λ (x : Reading). x.bad ∷ x.foreign ∷ []) r.answers;
     }
