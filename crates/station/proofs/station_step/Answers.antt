@@ -4,4 +4,4 @@ use Rattle.station.proofs.station_step.Goals as goal
 
 pub returns : goal.returns
 returns c =
-    step_given _ _ _ _ _ _ _ c.numbered_plan.ensures c.step-answer.ensures _ _ _ ? c.move_on.ensures
+    step_given _ _ _ _ _ _ _ c.numbered_plan.ensures c.step-answer.ensures _ _ _ c.step-answer.auto.image c.move_on.ensures
