@@ -1,5 +1,6 @@
 // The library for C and Rust: thin functions over the crates that own the rules.
 #![tactic(auto)]
+
 ghost use Rattle.std.specs.Prelude.{◌≡◌, ◌+◌, ◌*◌, length, length as listLength};
 ghost use Rattle.coding.specs.Coding.{high, low};
 ghost use Rattle.cells.specs.declared.Mode.TheVariants.{Fm, Mfm};
@@ -16,8 +17,7 @@ mod taken;
 mod timings;
 
 // The EDC of the bytes, with the register all ones at the start.
-#[unsafe(no_mangle)]
-pub extern "C" fn station_edc(bytes: &[u8]) -> u16
+pub fn station_edc(bytes: &[u8]) -> u16
     ensures { GivesEdc bytes.now result }
 {
     edc::edc(bytes)
@@ -32,24 +32,21 @@ fn joined(mode: Mode, before: u8, byte: u8) -> u16
 }
 
 // A byte coded in FM after the bit `before`: its two image bytes, the first in the upper half.
-#[unsafe(no_mangle)]
-pub extern "C" fn station_code_fm(before: u8, byte: u8) -> u16
+pub fn station_code_fm(before: u8, byte: u8) -> u16
     ensures { GivesCoded Fm before byte result }
 {
     joined(Mode::Fm, before, byte)
 }
 
 // A byte coded in MFM after the bit `before`, 0 for ZERO and anything else for ONE: its two image bytes, the first in the upper half.
-#[unsafe(no_mangle)]
-pub extern "C" fn station_code_mfm(before: u8, byte: u8) -> u16
+pub fn station_code_mfm(before: u8, byte: u8) -> u16
     ensures { GivesCoded Mfm before byte result }
 {
     joined(Mode::Mfm, before, byte)
 }
 
 // The data byte of the sixteen cells from `place` on; past the image's end cells are 0.
-#[unsafe(no_mangle)]
-pub extern "C" fn station_data_byte(image: &[u8], place: usize) -> u8
+pub fn station_data_byte(image: &[u8], place: usize) -> u8
     ensures { GivesDataByte image.now place result }
 {
     cells::data_byte(image, place)
@@ -57,8 +54,7 @@ pub extern "C" fn station_data_byte(image: &[u8], place: usize) -> u8
 
 // Formats a track: 0 where the image holds it, else the number of the refusal, and the image is as it was. `data` has the sectors' bytes
 // and `marks` a byte FB or F8 for each, by sector number.
-#[unsafe(no_mangle)]
-pub extern "C" fn station_format(
+pub fn station_format(
     layout: u32,
     cylinder: u32,
     side: u32,
@@ -75,8 +71,7 @@ pub extern "C" fn station_format(
 // Reads a track: 0, or the number of the refusal. `area` gets a slot for each sector number, `records` three numbers by sector, the answer's, the
 // place, and how many clock cells are doubtful, and zeros past the layout's count, `counts` the bad and the foreign identifiers. A refused read
 // leaves zeros in all three.
-#[unsafe(no_mangle)]
-pub extern "C" fn station_read(
+pub fn station_read(
     layout: u32,
     cylinder: u32,
     side: u32,
@@ -100,8 +95,7 @@ pub extern "C" fn station_read(
 // pass that the sector is taken from (1 the first, 2 the second), the first byte of its slot in that pass's area and the slot's length, or zeros
 // where neither pass answered or the call is refused. `record` gets the record of the pass that is taken, or of the first where neither answered, or
 // zeros where the call is refused.
-#[unsafe(no_mangle)]
-pub extern "C" fn station_pick(
+pub fn station_pick(
     layout: u32,
     sector: u32,
     first: &[u8],
@@ -123,8 +117,7 @@ pub extern "C" fn station_pick(
 
 // Asks for the rewrite of a sector: 0, and `plan` gets the layout, the cell at which the block's mark begins, 0 for the stores made, and the
 // stores in all; or the number of the refusal, and zeros in `plan`. `mark` is FB or F8, and `contents` the sector's new bytes.
-#[unsafe(no_mangle)]
-pub extern "C" fn station_request(
+pub fn station_request(
     layout: u32,
     cylinder: u32,
     side: u32,
@@ -143,13 +136,7 @@ pub extern "C" fn station_request(
 
 // Makes the store that is next by the plan: 0, and `plan` is moved on; or the number of the refusal, and plan and image are as they were. The
 // first three numbers of the plan are taken as they are, the fourth is not looked at.
-#[unsafe(no_mangle)]
-pub extern "C" fn station_step(
-    plan: &mut [u32; 4],
-    mark: u32,
-    contents: &[u8],
-    image: &mut [u8],
-) -> u8
+pub fn station_step(plan: &mut [u32; 4], mark: u32, contents: &[u8], image: &mut [u8]) -> u8
     ensures { GivesStep plan.old mark contents.now image.old result plan.new image.new }
 {
     let answer = rewrite::step(rewriting::numbered_plan(*plan), mark, contents, image);
@@ -159,8 +146,7 @@ pub extern "C" fn station_step(
 // Writes the file of a read cartridge: 0, and `area` holds the file and zeros behind it, `length` its bytes; or the number of the refusal, and zeros in
 // the whole area and in `length`. `tracks` has three bytes each, cylinder, side and layout, `answers` a byte for each of their sectors, and `data` the
 // bytes of those that answered with bytes.
-#[unsafe(no_mangle)]
-pub extern "C" fn station_file_write(
+pub fn station_file_write(
     label: &[u8],
     tracks: &[u8],
     answers: &[u8],
@@ -177,8 +163,7 @@ pub extern "C" fn station_file_write(
 
 // Reads the file of a read cartridge: 0, and `sections` gets the place and the count of label, tracks, answers and data; or the number of the
 // refusal, and zeros.
-#[unsafe(no_mangle)]
-pub extern "C" fn station_file_read(file: &[u8], sections: &mut [u32; 8]) -> u8
+pub fn station_file_read(file: &[u8], sections: &mut [u32; 8]) -> u8
     ensures { GivesFileRead file.now result sections.new }
 {
     let answer = file::read(file);
@@ -189,13 +174,7 @@ pub extern "C" fn station_file_read(file: &[u8], sections: &mut [u32; 8]) -> u8
 // Lays the cells of a capture into the image, where a nominal cell takes so many ticks of the counter that the stamps come from: 0, and `image` holds the
 // cells and zeros behind them, `result` their number and 0; or the number of the refusal, zeros in the whole image, and `result` gets 0 and the number
 // of the interval that is in no band, from 1, or zeros.
-#[unsafe(no_mangle)]
-pub extern "C" fn station_flux(
-    ticks: u32,
-    stamps: &[u32],
-    image: &mut [u8],
-    res: &mut [u64; 2],
-) -> u8
+pub fn station_flux(ticks: u32, stamps: &[u32], image: &mut [u8], res: &mut [u64; 2]) -> u8
     ensures { GivesFlux ticks stamps.now (listLength image.old) result image.new res.new }
 {
     let answer = flux::lay(ticks, stamps, image);
