@@ -1,6 +1,5 @@
 # Sourced by each script that builds or runs something, in sh and in bash. It finds the Rattle kit, builds a program or a library where what it is
-# made of changed, and runs programs for x86-64, emulated on other processors. Who sources it has set `root`, the repository's folder, and `me`, the
-# name to speak under.
+# made of changed, and runs programs for x86-64. Who sources it has set `root`, the repository's folder, and `me`, the name to speak under.
 
 say() { echo "$me: $*" >&2; }
 
@@ -10,11 +9,12 @@ give_up() {
     exit 2
 }
 
-# Sets kit, its tools for this machine, and what runs a program for x86-64.
+# Sets kit, its tools, and what runs a program for x86-64. On other processors that would be the kit's emulator. Today's kit has none, nor tools for
+# such a machine, so there it says what is missing; what the scripts do for Arm waits for a kit that has it.
 find_kit() {
     command -v rt >/dev/null 2>&1 || give_up "the Rattle kit is needed, and its command rt is not on the path (PATH)"
-    kit=$(dirname "$(dirname "$(rt doc </dev/null)")")
-    tools=$kit/on/$(uname -m)/toolchain/bin libraries=$kit/toolchain/lib
+    kit=$(dirname "$(rt doc </dev/null)")
+    tools=$kit/toolchain/bin libraries=$kit/toolchain/lib
     loader=$libraries/ld-linux-x86-64.so.2 emulator=
     [ "$(uname -m)" = x86_64 ] || emulator=$tools/qemu-x86_64
     for needed in "$loader" ${emulator:+"$emulator"}; do
@@ -117,7 +117,7 @@ crates_of() { # NAME
             print name
         }
         { sub(/#.*/, "") }
-        split($0, half, ":") == 2 { gsub(/[ \t]/, "", half[1]); below[half[1]] = half[2] }
+        split($0, half, ":") == 2 { split(half[1], word, " "); below[word[1]] = half[2] }
         END { visit(wanted) }' crates.txt
 }
 
@@ -126,48 +126,51 @@ sum_of() { # NAME
     {
         rt version </dev/null
         cat crates.txt
-        for crate in $(crates_of "$1"); do find "crates/$crate" -name must-fail -prune -o -type f -print; done |
+        for crate in $(crates_of "$1"); do find "crates/$crate" \( -name must-fail -o -name out \) -prune -o -type f -print; done |
             LC_ALL=C sort | tr '\n' '\0' | xargs -0 sha256sum
     } | sha256sum | cut -d ' ' -f 1
 }
 
-# Reads what rt says: keeps it in LOG, and tells of each crate once it is proved. Gives the status that the last line has.
-tell_progress() { # COUNT LOG
-    left=$1 told=' ' ended=2
+# Reads what rt says: keeps it in LOG, and tells of each of CRATES once it is proved. Gives the status that the last line has, but 0 where rt says that
+# it runs the program: then that is built, and what it does on no input is no matter here.
+tell_progress() { # LOG CRATES..
+    log=$1 told=' ' crate='' ended=2
+    shift
+    left=$# all=$#
+    tell() { # CRATE [HOW]
+        case $told in *" $1 "*) return ;; esac
+        told="$told$1 " left=$((left - 1))
+        say "proved: $1${2:+ $2}, $left of $all left"
+    }
     while IFS= read -r line; do
-        printf '%s\n' "$line" >>"$2"
+        printf '%s\n' "$line" >>"$log"
         case $line in
-        'build ended '*) ended=${line#build ended } ;;
-        'rt: '*' proved ('* | 'rt: target/staticlib/'*' has the functions of '*)
-            crate=${line#rt: } how=${line##* proved } && crate=${crate%% proved *}
-            case $line in
-            'rt: target/staticlib/'*) crate=${line#*has the functions of } how= && crate=${crate%% *} ;;
-            *'(unchanged since '*) how='(it was before)' ;;
-            esac
-            case $told in *" $crate "*) continue ;; esac
-            told="$told$crate " left=$((left - 1))
-            say "proved: $crate${how:+ $how}, $left of $1 left"
-            ;;
+        'build ended '*) [ "$ended" -eq 0 ] || ended=${line#build ended } ;;
+        'rt: running out/'*) ended=0 ;;
+        'crate '*': modules '*) crate=${line#crate } && crate=${crate%%:*} ;;
+        'logic=proved '*) tell "$crate" ;;
         esac
     done
+    # rt says nothing of a crate that it has proved and built before
+    if [ "$ended" -eq 0 ]; then for crate in "$@"; do tell "$crate" "(it was before)"; done; fi
     return "$ended"
 }
 
-# Makes target/bin/NAME or target/staticlib/libNAME.a, unless it is there and made of just what the crates hold now. rt proves a library anew at each
-# call, so what it stands on is checked first, several crates at a time. In a subshell: its folder and its lock end with it.
+# Makes target/bin/NAME or target/staticlib/libNAME.a, unless it is there and made of just what the crates hold now. The crate NAME_c makes the library: a
+# crate that others stand on can't. In a subshell: its folder and its lock end with it.
 build() ( # program|library NAME
     name=$2
     cd "$root" || give_up "can't go to $root"
     case $1 in
-    program) product=target/bin/$name ;;
-    library) product=target/staticlib/lib$name.a ;;
+    program) top=$name made=crates/$name/out/$name product=target/bin/$name ;;
+    library) top=${name}_c made=crates/${name}_c/out/lib${name}_c.a product=target/staticlib/lib$name.a ;;
     esac
-    sum=$(sum_of "$name")
+    sum=$(sum_of "$top")
     is_made() {
         [ -e "$product" ] && [ -e "$product.sum" ] && [ ! "$product" -nt "$product.sum" ] && [ "$(cat "$product.sum")" = "$sum" ]
     }
     ! is_made || exit 0
-    { mkdir -p target/log && : >>target/build.lock; } 2>/dev/null || give_up "can't write to $root/target"
+    { mkdir -p target/log "$(dirname "$product")" && : >>target/build.lock; } 2>/dev/null || give_up "can't write to $root/target"
     exec 9>target/build.lock
     if command -v flock >/dev/null 2>&1 && ! flock -n 9; then
         say "another build is under way; waiting for its end"
@@ -175,23 +178,26 @@ build() ( # program|library NAME
         ! is_made || exit 0
     fi
 
-    crates=$(crates_of "$name") log=target/log/build-$name.txt
-    count=$(echo "$crates" | wc -w)
+    crates=$(crates_of "$top") log=target/log/build-$name.txt
     say "building $name, which proves the crates that it is made of: from nothing that takes some minutes"
     # shellcheck disable=SC2086
     say "to be proved:" $crates
     : >"$log"
-    # shellcheck disable=SC2046,SC2086
+    # rt builds a program only to run it
     proving() {
+        cd "crates/$top" || return
         case $product in
-        target/bin/*) rt check "$name" ;;
-        *) rt check $(echo "$crates" | grep -vx "$name") && rt staticlib "$name" ;;
+        target/bin/*) rt run ;;
+        *) rt lib ;;
         esac
     }
-    { proving && echo "build ended 0" || echo "build ended 1"; } 2>&1 </dev/null | tell_progress "$count" "$log" || {
-        tail -n 20 "$log" >&2
+    # shellcheck disable=SC2086
+    { (proving) && echo "build ended 0" || echo "build ended 1"; } 2>&1 </dev/null | tell_progress "$log" $crates || {
+        grep -Ev '^(statements|library|logic|axioms|so far:|fn [^ ]*: proved)' "$log" | tail -n 20 >&2
         give_up "$name could not be built; the end of what rt said stands above, all of it in $root/$log"
     }
-    [ -e "$product" ] || give_up "rt left no $product: remove $root/target and call again"
+    [ -e "$made" ] || give_up "rt left no $made: remove $root/crates/$top/out and call again"
+    # in two steps, since the old one may be running
+    cp "$made" "$product.new" && mv "$product.new" "$product" || give_up "can't write to $root/target"
     echo "$sum" >"$product.sum"
 )

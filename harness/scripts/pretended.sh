@@ -1,45 +1,48 @@
 # Sourced by bin/test-scripts: the scripts in a copy of the repository, in a folder with a space in its name, with a kit that pretends. It proves
 # nothing and takes no time; PRETENDED says how a build goes, PROGRAM how the program does.
 copy="$work/a copy" pretended=$work/kit
-mkdir -p "$copy/harness" "$copy/examples" "$copy/elsewhere" "$pretended/bin" "$pretended/docs" "$pretended/toolchain/lib"
-mkdir -p "$pretended/on/$(uname -m)/toolchain/bin"
+mkdir -p "$copy/harness" "$copy/examples" "$copy/elsewhere" "$pretended/bin" "$pretended/toolchain/bin" "$pretended/toolchain/lib"
 cp -R "$root/bin" "$copy/bin"
 cp "$root"/harness/*.sh "$copy/harness" && cp "$root/examples/run.sh" "$copy/examples"
-printf 'one:\ntwo: one # above it\ndump: one two io libc\ncartridge_file: two io\nflux_track: two io\nstation: two\nother: one\n' >"$copy/crates.txt"
-for crate in one two dump cartridge_file flux_track station other; do
-    mkdir -p "$copy/crates/$crate/src" "$copy/crates/$crate/must-fail"
+printf 'one:\ntwo: one # above it\ndump: one two io libc\ncartridge_file: two io\nflux_track: two io\nstation: two\nstation_c staticlib: station\nother: one\n' >"$copy/crates.txt"
+for crate in one two dump cartridge_file flux_track station station_c other; do
+    mkdir -p "$copy/crates/$crate/src" "$copy/crates/$crate/must-fail" "$copy/crates/$crate/out"
     echo "$crate" >"$copy/crates/$crate/src/lib.rt"
 done
 cat >"$pretended/bin/rt" <<'END'
 #!/bin/sh
 kit=$(dirname "$(dirname "$(readlink -f "$0")")")
 case $1 in
-doc) echo "$kit/docs/START-HERE.md" && exit ;;
+doc) echo "$kit/START-HERE.md" && exit ;;
 version) echo "a kit that pretends" && exit ;;
 esac
 echo "$*" >>"$kit/calls"
 cat >/dev/null # whoever lends it the standard input loses that
+crate=$(basename "$PWD")
+proved() { echo "crate $1: modules loaded=0 checked=1" && echo "logic=proved functions=1"; }
 case ${PRETENDED:-proves}:$1 in
 refuses:*)
-    echo "rt: one proved (3 s)"
+    proved one
     echo "two/src/lib.rt:1:1: error: it is not so" >&2
-    echo "rt: two NOT PROVED (exit 1, 4 s)"
+    echo "crate two: modules loaded=0 checked=1" && echo "logic=not-proved"
+    echo "rt: the library two did not build, so nothing above it was checked" >&2
     exit 1
     ;;
-*:check)
-    echo "fn one::f: proved"
-    echo "rt: one proved (unchanged since it was last proved)"
-    echo "rt: two proved (4 s)"
-    case $2 in dump | cartridge_file | flux_track) ;; *) exit 0 ;; esac
-    echo "rt: $2 proved (5 s)"
-    [ "${PRETENDED:-proves}" != forgets ] || exit 0
-    mkdir -p target/bin && cp "$kit/program" "target/bin/$2"
-    echo "rt: $2 ran as nobody, and wrote what its file 'stdout' has (0 s)"
+*:run)
+    # of the crate one it says nothing, as where that is built
+    echo "fn two::f: proved"
+    proved two >&2
+    proved "$crate"
+    [ "${PRETENDED:-proves}" != forgets ] || { echo "rt: running out/$crate; to give it other input, run that file yourself" && exit; }
+    cp "$kit/program" "out/$crate"
+    echo "rt: running out/$crate; to give it other input, run that file yourself"
+    echo "what the program says where it has no input" && exit 3
     ;;
-*:staticlib)
-    echo "rt: one proved (unchanged since it was last proved)" >&2
-    mkdir -p target/staticlib && : >"target/staticlib/lib$2.a"
-    echo "rt: target/staticlib/lib$2.a has the functions of $2 that are marked"
+*:lib)
+    proved two >&2
+    proved "${crate%_c}"
+    : >"out/lib$crate.a"
+    proved "$crate"
     ;;
 esac
 END
@@ -65,8 +68,8 @@ fails) printf 'track 1 0 0\nidents 0 0\n' && exit 3 ;;
 esac
 END
 printf '#!/bin/sh\nshift 2\nexec "$@"\n' >"$pretended/toolchain/lib/ld-linux-x86-64.so.2"
-printf '#!/bin/sh\nexec "$@"\n' >"$pretended/on/$(uname -m)/toolchain/bin/qemu-x86_64"
-chmod +x "$pretended/bin/rt" "$pretended/program" "$pretended/toolchain/lib/"* "$pretended/on/$(uname -m)/toolchain/bin/"*
+printf '#!/bin/sh\nexec "$@"\n' >"$pretended/toolchain/bin/qemu-x86_64"
+chmod +x "$pretended/bin/rt" "$pretended/program" "$pretended/toolchain/lib/"* "$pretended/toolchain/bin/"*
 
 # the script at PATH from FOLDER, with that kit in front
 from() { (cd "$1" && PATH=$pretended/bin:$PATH && shift && "$@"); }
@@ -76,13 +79,13 @@ printf '12345' >"$copy/five"
 printf 'track 5 0 0\n1 21\nidents 0 0\n' >"$work/five.out"
 printf 'refused 4\n' >"$work/refused.out"
 
-# one of the lines while it builds: CRATE HOW LEFT
-left() { echo "bin/dump: proved: $1 \\($2\\), $3 of 3 left "; }
+# one of the lines while it builds: CRATE LEFT, and of what rt had proved before: CRATE LEFT HOW
+left() { echo "bin/dump: proved: $1${3:+ \\($3\\)}, $2 of 3 left "; }
 
 # while it builds: a line for each crate, on standard error alone; what it is not made of is not there
 building='bin/dump: building dump, [^ ]* .* bin/dump: to be proved: one two dump'
 try "a build tells of each crate" 0 "$work/five.out" \
-    "$building $(left one "it was before" 2)$(left two "4 s" 1)$(left dump "5 s" 0)" \
+    "$building $(left two 2)$(left dump 1)$(left one 0 "it was before")" \
     dump five
 looks "one build" calls 1
 try "what is built is not built again" 0 "$work/five.out" "" dump five
@@ -102,16 +105,17 @@ try "a build leaves the standard input alone" 0 "$work/five.out" "$building .* 0
 # a build that fails
 rm -rf "$copy/target"
 PRETENDED=refuses try "a build that fails" 2 "" \
-    "$building $(left one "3 s" 2).*error: it is not so .*two NOT PROVED.* bin/dump: dump could not be built; .* " dump five
-PRETENDED=forgets try "a build that leaves nothing" 2 "" "$building .* bin/dump: rt left no target/bin/dump: .* " dump five
+    "$building $(left one 2).*error: it is not so .*the library two did not build.* bin/dump: dump could not be built; .* " dump five
+rm "$copy/crates/dump/out/dump"
+PRETENDED=forgets try "a build that leaves nothing" 2 "" "$building .* bin/dump: rt left no crates/dump/out/dump: .* " dump five
 PRETENDED=refuses try "vectors, where the build fails" 2 "" ".* bin/vectors: dump could not be built; .* " from "$copy" bin/vectors "$root/vectors"
 PRETENDED=refuses try "harness, where the build fails" 2 "" \
-    "harness/run.sh: building station.*: to be proved: one two station .* harness/run.sh: station could not be built; .* " \
+    "harness/run.sh: building station.*: to be proved: one two station station_c .* harness/run.sh: station could not be built; .* " \
     from "$copy" harness/run.sh c
 PRETENDED=refuses try "examples, where the build fails" 2 "" ".* examples/run.sh: station could not be built; .* " from "$copy" examples/run.sh
 library() { (me=library root=$copy && PATH=$pretended/bin:$PATH && build library station); }
 try "the library" 0 "" \
-    "library: building .*: one \\(it was before\\), 2 of 3 left .*: two \\(4 s\\), 1 of 3 left library: proved: station, 0 of 3 left " library
+    "library: building .*: two, 3 of 4 left .*: station, 2 of 4 left .*: station_c, 1 of 4 left library: proved: one \\(it was before\\), 0 of 4 left " library
 try "is not built again" 0 "" "" library
 
 # no kit, or one that can't run a program here
@@ -154,7 +158,7 @@ PROGRAM=dies try "a track, and a signal" 2 "" ".*bin/dump: no track was printed,
 file() { from "$copy" bin/cartridge-file "$@"; }
 printf 'label "5"\ntracks 0, sectors 0, data bytes 0\n' >"$work/five-file.out"
 PROGRAM=prints-file try "a cartridge's file, and its build" 0 "$work/five-file.out" \
-    "bin/cartridge-file: building cartridge_file, .*: to be proved: one two cartridge_file .*: proved: cartridge_file \\(5 s\\), 0 of 3 left " file five
+    "bin/cartridge-file: building cartridge_file, .*: to be proved: one two cartridge_file .*: proved: cartridge_file, 1 of 3 left .* 0 of 3 left " file five
 PROGRAM=prints-file try "it is not built again" 0 "$work/five-file.out" "" file <"$copy/five"
 ln -s "../bin/cartridge-file" "$copy/elsewhere/file"
 PROGRAM=prints-file try "a cartridge's file through a link" 0 "$work/five-file.out" "" from "$copy/elsewhere" ./file link
@@ -173,7 +177,7 @@ mkdir "$work/made"
 printf '\1\5\0\2525\n' >"$work/five-track.out"
 printf 'ref\365sed 43 5\n' >"$work/letters.out"
 PROGRAM=makes try "a track, and its build" 0 "$work/five-track.out" \
-    "bin/flux: building flux_track, .*: to be proved: one two flux_track .*: proved: flux_track \\(5 s\\), 0 of 3 left " flux five
+    "bin/flux: building flux_track, .*: to be proved: one two flux_track .*: proved: flux_track, 1 of 3 left .* 0 of 3 left " flux five
 PROGRAM=makes try "from the standard input" 0 "$work/five-track.out" "" flux <"$copy/five"
 PROGRAM=makes-letters try "a track that begins almost as a refusal" 0 "$work/letters.out" "" flux five
 for refused in "41:the ticks of a nominal bit cell are not 16 to 1,024" "42:there is no stamp" "43 17:interval 17 is in no band" \
@@ -262,18 +266,19 @@ try "peers with a word" 2 "" "usage: bin/peers .*" without_kit bin/peers all
 
 # the gate's table
 cat >"$work/log" <<'END'
-rt: cells proved (17 s)
-rt: edc proved (5 s)
-rt: must-fail cells/a_b: refused, as it must be (first at src/lib.rt:3:4; 16 s)
-rt: must-fail cells/c_d: refused, as it must be (18 s)
+rt: cells proved
+rt: edc is kept: an earlier run on this machine proved the same files over the same libraries
+rt: cells: its tests are proved
+rt: must-fail cells/a_b.edit: refused, as it must be: note: src/lib.rt:3:4: it is not so
+rt: must-fail cells/c_d.edit: refused, as it must be
 5 passed, 0 failed
 real	28m58.061s
 END
 from "$copy" bin/gate-table "$work/log" >"$work/table"
-looks "the gate's table" [ "$(grep '^| [ace]' "$work/table")" = "| crate | proof, s | edits | all edits, s | an edit, s |
-| cells | 17 | 2 | 34 | 17 |
-| edc | 5 | 0 | 0 |  |
-| all 2 | 22 | 2 | 34 | 17 |" ]
+looks "the gate's table" [ "$(grep '^| [ace]' "$work/table")" = "| crate | proof | edits refused |
+| cells | proved | 2 |
+| edc | kept | 0 |
+| all 2 | 1 proved, 1 kept | 2 |" ]
 looks "names no edit" [ "$(grep -c a_b "$work/table")" -eq 0 ]
 grep -v passed "$work/log" >"$work/no-log"
 try "a log without a verdict" 1 "" "bin/gate-table: $work/no-log has no verdict of rt ci " from "$copy" bin/gate-table "$work/no-log"
