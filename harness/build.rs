@@ -1,4 +1,4 @@
-//! Says where the archive is that `rt staticlib station` wrote and include/station.rs links, and notes which compiler builds the Rust side.
+//! Says where the archive is that bin/library made and include/station.rs links, and notes which compiler builds the Rust side.
 use std::env;
 use std::error::Error;
 use std::path::Path;

@@ -1,9 +1,9 @@
 #!/bin/sh
-# The Rattle library from Rust and from C, native on x86-64, emulated on Arm: comparisons, long run, benchmark. `harness/run.sh --help` says more.
+# The Rattle library from Rust and from C, on x86-64: comparisons, long run, benchmark. `harness/run.sh --help` says more.
 set -eu
 usage() {
     cat <<'END'
-usage, all of it the Rattle library from Rust and from C, native on x86-64, emulated on Arm:
+usage, all of it the Rattle library from Rust and from C, on x86-64:
        harness/run.sh [test]: all comparisons, with the inputs by kind and the answers and refusals that were met; it fails
            where two sides differ, and where one of those numbers was not met
        harness/run.sh test WORDS..: those comparisons in Rust that have such a word in their names

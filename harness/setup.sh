@@ -1,5 +1,6 @@
 # Sourced by harness/run.sh and examples/run.sh, which set `root` and `me` and have sourced bin/kit.sh. It builds the library where it has to be
-# built, and makes compilers, linker and emulator ready: a program is for x86-64, native there and emulated on Arm.
+# built, and makes compilers, linker and emulator ready: a program is for x86-64, native there and emulated on Arm. (Today's kit has nothing for Arm, so
+# that find_kit ends the script there; what is done for Arm below was run with an earlier kit.)
 # Exit status 77: the compiler that this machine lacks cannot be had; nothing was compared.
 here=$root/harness target=x86_64-unknown-linux-gnu archive=$root/target/staticlib/libstation.a
 find_kit

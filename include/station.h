@@ -2,7 +2,7 @@
  * station.h: the tracks of 200 mm flexible disk cartridges (ISO 7065-2), held as bit cells: format, read, pick from two passes, rewrite; the file
  * of a read cartridge; and the cells of a track from the time stamps of its flux transitions.
  *
- * The functions are in target/staticlib/libstation.a, which `rt staticlib station` writes for x86-64 programs. Each is proved to do what is
+ * The functions are in target/staticlib/libstation.a, which bin/library makes for x86-64 programs. Each is proved to do what is
  * said at its prototype, for all arguments, and to touch no byte but those it is lent. The archive has no variable and calls nothing but
  * memset: nothing is kept from one call to the next, and nothing is allocated.
  *

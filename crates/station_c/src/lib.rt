@@ -162,7 +162,7 @@ pub extern "C" fn station_file_read(file: &[u8], sections: &mut [u32; 8]) -> u8
 }
 
 // Lays the cells of a capture into the image, where a nominal cell takes so many ticks of the counter that the stamps come from: 0, and `image` holds the
-// cells and zeros behind them, `result` their number and 0; or the number of the refusal, zeros in the whole image, and `result` gets 0 and the number
+// cells and zeros behind them, `res` their number and 0; or the number of the refusal, zeros in the whole image, and `res` gets 0 and the number
 // of the interval that is in no band, from 1, or zeros.
 #[unsafe(no_mangle)]
 pub extern "C" fn station_flux(

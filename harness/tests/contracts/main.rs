@@ -63,9 +63,9 @@ fn the_quoted_names_are_there() {
     println!("contracts: {} names in quotes", page.quoted.len());
 }
 
-/// What looks like a theorem or a definition is declared in the logic; a plain word may also be one of the code.
+/// What looks like a type is declared in the logic; a name in small letters, or with an underscore, may also be one of the code.
 fn is_known_word(there: &There, name: &str) -> bool {
-    let is_plain = name.chars().all(|c| c.is_ascii_lowercase() || c.is_ascii_digit());
+    let is_plain = name.contains('_') || name.chars().all(|c| c.is_ascii_lowercase() || c.is_ascii_digit());
     let in_code = is_plain && (there.code.contains(name) || there.crates.contains(name) || WORDS.contains(&name));
     there.declared.contains(name) || in_code
 }

@@ -106,14 +106,14 @@ fn is_edit(word: &str) -> bool {
     is_small && word.trim_matches('_').contains('_')
 }
 
-/// The name in `octet(image, place)`, `marks::find` or `read_tested`; None of what is no code.
+/// The name in `octet(image, place)` or `marks::find`; None of what need be no code.
 pub fn code_name(text: &str) -> Option<&str> {
     let name = text.split('(').next().unwrap_or("");
-    let is_code = text.contains('(') || text.contains("::") || text.contains('_');
+    let is_code = text.contains('(') || text.contains("::");
     name.rsplit("::").next().filter(|_| is_code)
 }
 
-/// Whether a word is a name as the logic has them.
+/// Whether a word is a name as the logic and the code have them.
 pub fn is_word(word: &str) -> bool {
-    word.starts_with(char::is_alphabetic) && word.chars().all(|c| c.is_alphanumeric() || c == '-')
+    word.starts_with(char::is_alphabetic) && word.chars().all(|c| c.is_alphanumeric() || "-_".contains(c))
 }

@@ -1,5 +1,5 @@
-//! The header for C and the declarations in Rust say what the Rattle crate exports: names, order, types, and the names of parameters. The
-//! header's numbers are those of the specifications.
+//! The header for C and the declarations in Rust say what the Rattle crate exports: names, order, types, and the names of parameters. What it
+//! exports is the library's, word for word. The header's numbers are those of the specifications.
 mod declared;
 mod signatures;
 
@@ -16,17 +16,27 @@ fn file(path: &str) -> String {
 
 /// The exported functions. All of them stand in one file.
 fn exported() -> Vec<signatures::Function> {
-    let folder = Path::new(env!("CARGO_MANIFEST_DIR")).join("../crates/station/src");
+    let folder = Path::new(env!("CARGO_MANIFEST_DIR")).join("../crates/station_c/src");
     for entry in fs::read_dir(folder).expect("the crate's sources") {
         let name = entry.expect("a source").file_name().into_string().expect("a plain name");
-        let others = name != "lib.rt" && file(&format!("crates/station/src/{name}")).contains("#[no_mangle]");
+        let others = name != "lib.rt" && file(&format!("crates/station_c/src/{name}")).contains("no_mangle");
         assert!(!others, "{name} exports functions too: they are not compared");
     }
-    signatures::exported(&file("crates/station/src/lib.rt"))
+    signatures::exported(&file("crates/station_c/src/lib.rt"))
 }
 
 fn header() -> Header {
     Header::new(&file("include/station.h"))
+}
+
+/// A crate that others stand on can't export, so another does, with the same parameters and clauses.
+#[test]
+fn what_is_exported_is_the_library() {
+    let [library, exports] =
+        ["station", "station_c"].map(|name| signatures::heads(&file(&format!("crates/{name}/src/lib.rt"))));
+    assert_eq!(exports.len(), exported().len(), "exported, or public alone: {exports:#?}");
+    assert_eq!(library, exports, "left: crates/station, right: crates/station_c");
+    println!("header: {} functions exported as they are", exports.len());
 }
 
 /// Where the crate exports so many numbers, C and Rust have structs, by the fields that each declares for them.
@@ -35,7 +45,7 @@ fn the_header_declares_what_is_exported() {
     let Header { prototypes, structs, .. } = header();
     let expected: Vec<String> = exported().iter().map(|function| function.in_c(&structs)).collect();
     assert!(!expected.is_empty(), "nothing is exported");
-    assert_eq!(prototypes, expected, "left: include/station.h, right: what crates/station exports");
+    assert_eq!(prototypes, expected, "left: include/station.h, right: what crates/station_c exports");
     println!("header: {} prototypes as exported", prototypes.len());
 }
 
@@ -44,7 +54,7 @@ fn the_declarations_in_rust_are_what_is_exported() {
     let source = file("include/station.rs");
     let (declared, structs) = (declared::rust(&source), declared::structs_in_rust(&source));
     let expected: Vec<String> = exported().iter().map(|function| function.in_rust(&structs)).collect();
-    assert_eq!(declared, expected, "left: include/station.rs, right: what crates/station exports");
+    assert_eq!(declared, expected, "left: include/station.rs, right: what crates/station_c exports");
     assert_eq!(structs, header().structs, "the structs' numbers, left: include/station.rs, right: include/station.h");
     println!("header: {} declarations in Rust as exported", declared.len());
 }
@@ -165,11 +175,11 @@ fn the_constants_are_the_specifications_numbers() {
     let of =
         |prefix: &str| -> Vec<String> { constants.iter().filter(|text| text.starts_with(prefix)).cloned().collect() };
     let crates = [("calls", "STATION_REFUSED_"), ("file", "STATION_REFUSED_FILE_"), ("flux", "STATION_REFUSED_FLUX_")];
-    let refusals = numbered("refusalNumber", &crates);
-    let mut answers = numbered("answerNumber", &[("answers", "STATION_ANSWER_")]);
-    answers.extend(numbered("faultNumber", &[("answers", "STATION_ANSWER_")]));
-    assert_eq!(of("STATION_REFUSED_"), refusals, "left: include/station.h, right: refusalNumber");
-    assert_eq!(of("STATION_ANSWER_"), answers, "left: include/station.h, right: answerNumber and faultNumber");
+    let refusals = numbered("refusal_number", &crates);
+    let mut answers = numbered("answer_number", &[("answers", "STATION_ANSWER_")]);
+    answers.extend(numbered("fault_number", &[("answers", "STATION_ANSWER_")]));
+    assert_eq!(of("STATION_REFUSED_"), refusals, "left: include/station.h, right: refusal_number");
+    assert_eq!(of("STATION_ANSWER_"), answers, "left: include/station.h, right: answer_number and fault_number");
     let mut others: Vec<String> =
         ["STATION_DONE = 0", "STATION_MARK_DATA = 0xFB", "STATION_MARK_CONTROL = 0xF8"].map(String::from).into();
     others.extend(sizes());

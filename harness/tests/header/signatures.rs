@@ -35,16 +35,21 @@ pub struct Function {
 
 const BEGIN: &str = "pub extern \"C\" fn ";
 
-/// The exported functions, in order. Each item begins with `#[no_mangle]`, and none is left out.
+const MARK: &str = "#[unsafe(no_mangle)]";
+
+/// The exported functions, in order. Each item begins with the mark, and none is left out.
 pub fn exported(source: &str) -> Vec<Function> {
     let source = without_line_comments(source);
-    let items: Vec<&str> = source.split("#[no_mangle]").skip(1).collect();
-    assert_eq!(
-        items.len(),
-        source.matches("extern \"C\"").count(),
-        "an extern \"C\" without #[no_mangle], or the reverse"
-    );
+    let items: Vec<&str> = source.split(MARK).skip(1).collect();
+    assert_eq!(items.len(), source.matches("extern \"C\"").count(), "an extern \"C\" without {MARK}, or the reverse");
     items.iter().map(|item| function(item.trim_start())).collect()
+}
+
+/// The heads of the public functions, from their names to the ends of their clauses, with single spaces.
+pub fn heads(source: &str) -> Vec<String> {
+    let source = without_line_comments(source).replace(MARK, "").replace("extern \"C\" ", "");
+    let head = |item: &str| item.split("\n{").next().unwrap_or("").split_whitespace().collect::<Vec<_>>().join(" ");
+    source.split("\npub fn ").skip(1).map(head).collect()
 }
 
 pub fn without_line_comments(source: &str) -> String {
@@ -52,7 +57,7 @@ pub fn without_line_comments(source: &str) -> String {
 }
 
 fn function(item: &str) -> Function {
-    let item = item.strip_prefix(BEGIN).unwrap_or_else(|| panic!("#[no_mangle] before something else: {item:.60}"));
+    let item = item.strip_prefix(BEGIN).unwrap_or_else(|| panic!("{MARK} before something else: {item:.60}"));
     let (name, rest) = item.split_once('(').expect("parameters");
     let (parameters, rest) = rest.split_once(')').expect("the parameters' end");
     let result = rest.trim_start().strip_prefix("->").expect("a result");
@@ -63,7 +68,9 @@ fn function(item: &str) -> Function {
 
 fn parameter(text: &str) -> (String, Kind) {
     let (name, kind) = text.split_once(':').expect("a parameter's type");
-    (name.trim().to_string(), self::kind(kind.trim()))
+    // in a clause `result` is what the function returns
+    let name = if name.trim() == "res" { "result" } else { name.trim() };
+    (name.to_string(), self::kind(kind.trim()))
 }
 
 fn kind(text: &str) -> Kind {

@@ -1,5 +1,5 @@
 //! The sections of the objects in an archive: what a program that links it takes into its memory. Archive and objects are
-//! little-endian ELF for x86-64, as `rt staticlib` writes them on every machine.
+//! little-endian ELF for x86-64, as rt writes them on every machine.
 
 /// A section that a program loads.
 pub struct Section {
