@@ -32,6 +32,11 @@ impl Page {
         for line in text.lines() {
             if let Some(title) = line.strip_prefix("## ") {
                 section = Some(title.trim().to_string()).filter(|title| crates.contains(title));
+                // a crate's name may look like an edit's
+                if section.is_some() {
+                    columns.clear();
+                    continue;
+                }
             }
             page.take_paths(line);
             let row = match line.strip_prefix('|') {
