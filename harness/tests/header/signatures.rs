@@ -49,6 +49,7 @@ pub fn exported(source: &str) -> Vec<Function> {
 pub fn heads(source: &str) -> Vec<String> {
     let source = without_line_comments(source).replace(MARK, "").replace("extern \"C\" ", "");
     let head = |item: &str| item.split("\n{").next().unwrap_or("").split_whitespace().collect::<Vec<_>>().join(" ");
+    let head = |item: &str| head(item).replace("( ", "(").replace(", )", ")");
     source.split("\npub fn ").skip(1).map(head).collect()
 }
 
