@@ -131,33 +131,25 @@ sum_of() { # NAME
     } | sha256sum | cut -d ' ' -f 1
 }
 
-# Reads what rt says: keeps it in LOG, and tells of each of CRATES once it is proved. Gives the status that the last line has, but 0 where rt says that
-# it runs the program: then that is built, and what it does on no input is no matter here.
-tell_progress() { # LOG CRATES..
-    log=$1 told=' ' crate='' ended=2
-    shift
-    left=$# all=$#
-    tell() { # CRATE [HOW]
-        case $told in *" $1 "*) return ;; esac
-        told="$told$1 " left=$((left - 1))
-        say "proved: $1${2:+ $2}, $left of $all left"
-    }
+# Reads what a build says: keeps it in LOG, and tells of each crate once it is proved. Gives the status that the last line has.
+tell_progress() { # COUNT LOG
+    left=$1 ended=2
     while IFS= read -r line; do
-        printf '%s\n' "$line" >>"$log"
+        printf '%s\n' "$line" >>"$2"
         case $line in
-        'build ended '*) [ "$ended" -eq 0 ] || ended=${line#build ended } ;;
-        'rt: running out/'*) ended=0 ;;
-        'crate '*': modules '*) crate=${line#crate } && crate=${crate%%:*} ;;
-        'logic=proved '*) tell "$crate" ;;
+        'build ended '*) ended=${line#build ended } ;;
+        'build proved '*)
+            left=$((left - 1))
+            say "proved: ${line#build proved }, $left of $1 left"
+            ;;
         esac
     done
-    # rt says nothing of a crate that it has proved and built before
-    if [ "$ended" -eq 0 ]; then for crate in "$@"; do tell "$crate" "(it was before)"; done; fi
     return "$ended"
 }
 
 # Makes target/bin/NAME or target/staticlib/libNAME.a, unless it is there and made of just what the crates hold now. The crate NAME_c makes the library: a
-# crate that others stand on can't. In a subshell: its folder and its lock end with it.
+# crate that others stand on can't. rt is called in the folder of each crate, of those first that others stand on, and is quick where nothing changed. In a
+# subshell: its folder and its lock end with it.
 build() ( # program|library NAME
     name=$2
     cd "$root" || give_up "can't go to $root"
@@ -179,21 +171,26 @@ build() ( # program|library NAME
     fi
 
     crates=$(crates_of "$top") log=target/log/build-$name.txt
+    count=$(echo "$crates" | wc -w)
     say "building $name, which proves the crates that it is made of: from nothing that takes some minutes"
     # shellcheck disable=SC2086
     say "to be proved:" $crates
     : >"$log"
-    # rt builds a program only to run it
     proving() {
-        cd "crates/$top" || return
-        case $product in
-        target/bin/*) rt run ;;
-        *) rt lib ;;
-        esac
+        rm -f "$made"
+        for crate in $crates; do
+            began=$(date +%s)
+            if [ "$crate:$made" != "$name:crates/$name/out/$name" ]; then
+                (cd "crates/$crate" && rt lib) || return
+            else
+                # rt builds a program only to run it, and gives its status: here, on no input, that is no matter
+                (cd "crates/$crate" && rt run) || [ -e "$made" ] || return
+            fi
+            echo "build proved $crate ($(($(date +%s) - began)) s)"
+        done
     }
-    # shellcheck disable=SC2086
-    { (proving) && echo "build ended 0" || echo "build ended 1"; } 2>&1 </dev/null | tell_progress "$log" $crates || {
-        grep -Ev '^(statements|library|logic|axioms|so far:|fn [^ ]*: proved)' "$log" | tail -n 20 >&2
+    { proving && echo "build ended 0" || echo "build ended 1"; } 2>&1 </dev/null | tell_progress "$count" "$log" || {
+        grep -Ev '^(statements|library|logic|axioms) |^(so far:|fn [^ ]*: proved)' "$log" | tail -n 20 >&2
         give_up "$name could not be built; the end of what rt said stands above, all of it in $root/$log"
     }
     [ -e "$made" ] || give_up "rt left no $made: remove $root/crates/$top/out and call again"

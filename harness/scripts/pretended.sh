@@ -16,34 +16,23 @@ case $1 in
 doc) echo "$kit/START-HERE.md" && exit ;;
 version) echo "a kit that pretends" && exit ;;
 esac
-echo "$*" >>"$kit/calls"
-cat >/dev/null # whoever lends it the standard input loses that
 crate=$(basename "$PWD")
-proved() { echo "crate $1: modules loaded=0 checked=1" && echo "logic=proved functions=1"; }
-case ${PRETENDED:-proves}:$1 in
-refuses:*)
-    proved one
-    echo "two/src/lib.rt:1:1: error: it is not so" >&2
-    echo "crate two: modules loaded=0 checked=1" && echo "logic=not-proved"
-    echo "rt: the library two did not build, so nothing above it was checked" >&2
+[ "$crate" != one ] || echo "$*" >>"$kit/calls" # every build begins with it
+cat >/dev/null # whoever lends it the standard input loses that
+mkdir -p out
+case ${PRETENDED:-proves}:$1:$crate in
+refuses:*:two)
+    echo "src/lib.rt:1:1: error: it is not so" >&2
+    echo "logic=not-proved"
     exit 1
     ;;
-*:run)
-    # of the crate one it says nothing, as where that is built
-    echo "fn two::f: proved"
-    proved two >&2
-    proved "$crate"
-    [ "${PRETENDED:-proves}" != forgets ] || { echo "rt: running out/$crate; to give it other input, run that file yourself" && exit; }
-    cp "$kit/program" "out/$crate"
-    echo "rt: running out/$crate; to give it other input, run that file yourself"
-    echo "what the program says where it has no input" && exit 3
-    ;;
-*:lib)
-    proved two >&2
-    proved "${crate%_c}"
-    : >"out/lib$crate.a"
-    proved "$crate"
-    ;;
+forgets:*) exit ;;
+esac
+echo "fn $crate::f: proved"
+echo "logic=proved functions=1"
+case $1:$crate in
+run:*) cp "$kit/program" "out/$crate" && echo "what it says, where it has no input" && exit 3 ;;
+lib:*_c) : >"out/lib$crate.a" ;;
 esac
 END
 cat >"$pretended/program" <<'END'
@@ -79,13 +68,13 @@ printf '12345' >"$copy/five"
 printf 'track 5 0 0\n1 21\nidents 0 0\n' >"$work/five.out"
 printf 'refused 4\n' >"$work/refused.out"
 
-# one of the lines while it builds: CRATE LEFT, and of what rt had proved before: CRATE LEFT HOW
-left() { echo "bin/dump: proved: $1${3:+ \\($3\\)}, $2 of 3 left "; }
+# one of the lines while it builds: CRATE LEFT
+left() { echo "bin/dump: proved: $1 \\([0-9]+ s\\), $2 of 3 left "; }
 
 # while it builds: a line for each crate, on standard error alone; what it is not made of is not there
 building='bin/dump: building dump, [^ ]* .* bin/dump: to be proved: one two dump'
 try "a build tells of each crate" 0 "$work/five.out" \
-    "$building $(left two 2)$(left dump 1)$(left one 0 "it was before")" \
+    "$building $(left one 2)$(left two 1)$(left dump 0)" \
     dump five
 looks "one build" calls 1
 try "what is built is not built again" 0 "$work/five.out" "" dump five
@@ -105,17 +94,17 @@ try "a build leaves the standard input alone" 0 "$work/five.out" "$building .* 0
 # a build that fails
 rm -rf "$copy/target"
 PRETENDED=refuses try "a build that fails" 2 "" \
-    "$building $(left one 2).*error: it is not so .*the library two did not build.* bin/dump: dump could not be built; .* " dump five
-rm "$copy/crates/dump/out/dump"
+    "$building $(left one 2).*error: it is not so .*bin/dump: dump could not be built; .* " dump five
 PRETENDED=forgets try "a build that leaves nothing" 2 "" "$building .* bin/dump: rt left no crates/dump/out/dump: .* " dump five
 PRETENDED=refuses try "vectors, where the build fails" 2 "" ".* bin/vectors: dump could not be built; .* " from "$copy" bin/vectors "$root/vectors"
 PRETENDED=refuses try "harness, where the build fails" 2 "" \
     "harness/run.sh: building station.*: to be proved: one two station station_c .* harness/run.sh: station could not be built; .* " \
     from "$copy" harness/run.sh c
 PRETENDED=refuses try "examples, where the build fails" 2 "" ".* examples/run.sh: station could not be built; .* " from "$copy" examples/run.sh
+took='\([0-9]+ s\)'
 library() { (me=library root=$copy && PATH=$pretended/bin:$PATH && build library station); }
 try "the library" 0 "" \
-    "library: building .*: two, 3 of 4 left .*: station, 2 of 4 left .*: station_c, 1 of 4 left library: proved: one \\(it was before\\), 0 of 4 left " library
+    "library: building .*: one $took, 3 of 4 left .*: two $took, 2 of 4 left .*: station $took, 1 of 4 left library: proved: station_c $took, 0 of 4 left " library
 try "is not built again" 0 "" "" library
 
 # no kit, or one that can't run a program here
@@ -158,7 +147,7 @@ PROGRAM=dies try "a track, and a signal" 2 "" ".*bin/dump: no track was printed,
 file() { from "$copy" bin/cartridge-file "$@"; }
 printf 'label "5"\ntracks 0, sectors 0, data bytes 0\n' >"$work/five-file.out"
 PROGRAM=prints-file try "a cartridge's file, and its build" 0 "$work/five-file.out" \
-    "bin/cartridge-file: building cartridge_file, .*: to be proved: one two cartridge_file .*: proved: cartridge_file, 1 of 3 left .* 0 of 3 left " file five
+    "bin/cartridge-file: building cartridge_file, .*: to be proved: one two cartridge_file .*: proved: cartridge_file $took, 0 of 3 left " file five
 PROGRAM=prints-file try "it is not built again" 0 "$work/five-file.out" "" file <"$copy/five"
 ln -s "../bin/cartridge-file" "$copy/elsewhere/file"
 PROGRAM=prints-file try "a cartridge's file through a link" 0 "$work/five-file.out" "" from "$copy/elsewhere" ./file link
@@ -177,7 +166,7 @@ mkdir "$work/made"
 printf '\1\5\0\2525\n' >"$work/five-track.out"
 printf 'ref\365sed 43 5\n' >"$work/letters.out"
 PROGRAM=makes try "a track, and its build" 0 "$work/five-track.out" \
-    "bin/flux: building flux_track, .*: to be proved: one two flux_track .*: proved: flux_track, 1 of 3 left .* 0 of 3 left " flux five
+    "bin/flux: building flux_track, .*: to be proved: one two flux_track .*: proved: flux_track $took, 0 of 3 left " flux five
 PROGRAM=makes try "from the standard input" 0 "$work/five-track.out" "" flux <"$copy/five"
 PROGRAM=makes-letters try "a track that begins almost as a refusal" 0 "$work/letters.out" "" flux five
 for refused in "41:the ticks of a nominal bit cell are not 16 to 1,024" "42:there is no stamp" "43 17:interval 17 is in no band" \
