@@ -1,5 +1,5 @@
--- What the words of the code count, the doubtful clock cells of octets, and which runs of bytes they serve. (Aids of the code; the laws `words-clocks` and
--- `sixteen-clocks` say that those of octets are those of a byte. No promise rests on them.)
+-- What the words of the code count, the doubtful clock cells of octets, and which runs of bytes they serve. (Aids of the code; the laws `words_clocks` and
+-- `sixteen_clocks` say that those of octets are those of a byte. No promise rests on them.)
 use Rattle.std.specs.Prelude.{ℕ, ◌+◌, ◌*◌, ◌/◌, ◌%◌, ◌<◌, List, length, bit_and, bit_or, bit_xor}
 use Rattle.cells.specs.Cells.{cell, doubt}
 use Rattle.cells.specs.Outcomes.{AreReadBytes}

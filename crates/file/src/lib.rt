@@ -134,7 +134,7 @@ pub fn read(file: &[u8]) -> Judged
 // Writes the file of a label, tracks of three bytes each, answers and data into the area, and zeros behind it. A refused writing leaves zeros in the
 // whole area.
 pub fn write(label: &[u8], tracks: &[u8], answers: &[u8], data: &[u8], area: &mut [u8]) -> Written
-    ensures { Writes (record { label = label.entry.now; tracks = tracks.now; answers = answers.now; «data» = «data».now }) (length area.old) result area.new }
+    ensures { Writes (record { label = label.now; tracks = tracks.now; answers = answers.now; «data» = «data».now }) (length area.old) result area.new }
 {
     match tests::tested(label, tracks, answers, data, area.len()) {
         Tested::Refused(refusal) => {

@@ -12,7 +12,7 @@ use super::{Asked, COUNT_WIDTH, LONGEST_LABEL, MOST_TRACKS, Refusal, TRACK_WIDTH
 // 36: the area holds the file.
 fn room_tested(label: &[u8], tracks: &[u8], answers: &[u8], data: &[u8], room: usize) -> Tested
     requires { Short (record { label = label.now; tracks = tracks.now; answers = answers.now; «data» = «data».now }) }
-    ensures { result ≡ by (refusal (room_test (record { label = label.entry.now; tracks = tracks.now; answers = answers.now; «data» = «data».now }) room ∷ [])) tested.Passed tested.Refused }
+    ensures { result ≡ by (refusal (room_test (record { label = label.now; tracks = tracks.now; answers = answers.now; «data» = «data».now }) room ∷ [])) tested.Passed tested.Refused }
 {
     let counts = 4 * COUNT_WIDTH;
     if room < counts + label.len() + tracks.len() + answers.len() + data.len() {
@@ -31,7 +31,7 @@ fn answers_tested(
     room: usize,
 ) -> Tested
     requires { (length label.now ≤ longest_label) × (length tracks.now ≤ track_width * most_tracks) × (sectors ≡ sectors_of (entries tracks.now)) }
-    ensures { result ≡ by (refusal (answers_on (record { label = label.entry.now; tracks = tracks.now; answers = answers.now; «data» = «data».now }) room)) tested.Passed tested.Refused }
+    ensures { result ≡ by (refusal (answers_on (record { label = label.now; tracks = tracks.now; answers = answers.now; «data» = «data».now }) room)) tested.Passed tested.Refused }
 {
     if answers.len() != sectors {
         return Tested::Refused(Refusal::AnswerBytes);
@@ -53,7 +53,7 @@ pub(crate) fn tested(
     data: &[u8],
     room: usize,
 ) -> Tested
-    ensures { result ≡ by (refusal (write_tests (record { label = label.entry.now; tracks = tracks.now; answers = answers.now; «data» = «data».now }) room)) tested.Passed tested.Refused }
+    ensures { result ≡ by (refusal (write_tests (record { label = label.now; tracks = tracks.now; answers = answers.now; «data» = «data».now }) room)) tested.Passed tested.Refused }
 {
     if LONGEST_LABEL < label.len() {
         return Tested::Refused(Refusal::LabelOrTracks);

@@ -32,8 +32,8 @@ fn put_section(width: usize, held: &[u8], area: &mut [u8], at: usize) -> usize
 // The four sections. The answer is the byte behind them.
 fn put_sections(label: &[u8], tracks: &[u8], answers: &[u8], data: &[u8], area: &mut [u8]) -> usize
     requires { 16 + length label.now + length tracks.now + length answers.now + length «data».now ≤ length area.old }
-    ensures written { area.new ≡ sets area.old 0 (encoded (record { label = label.entry.now; tracks = tracks.now; answers = answers.now; «data» = «data».now })) }
-    ensures behind { result ≡ length (encoded (record { label = label.entry.now; tracks = tracks.now; answers = answers.now; «data» = «data».now })) }
+    ensures written { area.new ≡ sets area.old 0 (encoded (record { label = label.now; tracks = tracks.now; answers = answers.now; «data» = «data».now })) }
+    ensures behind { result ≡ length (encoded (record { label = label.now; tracks = tracks.now; answers = answers.now; «data» = «data».now })) }
 {
     let tracks_at = put_section(1, label, area, 0);
     let answers_at = put_section(TRACK_WIDTH, tracks, area, tracks_at);
@@ -50,8 +50,8 @@ pub(crate) fn put_file(
     area: &mut [u8],
 ) -> usize
     requires { length (encoded (record { label = label.now; tracks = tracks.now; answers = answers.now; «data» = «data».now })) ≤ length area.old }
-    ensures written { area.new ≡ encoded (record { label = label.entry.now; tracks = tracks.now; answers = answers.now; «data» = «data».now }) ++ replicate (length area.old - length (encoded (record { label = label.entry.now; tracks = tracks.now; answers = answers.now; «data» = «data».now }))) 0 }
-    ensures behind { result ≡ length (encoded (record { label = label.entry.now; tracks = tracks.now; answers = answers.now; «data» = «data».now })) }
+    ensures written { area.new ≡ encoded (record { label = label.now; tracks = tracks.now; answers = answers.now; «data» = «data».now }) ++ replicate (length area.old - length (encoded (record { label = label.now; tracks = tracks.now; answers = answers.now; «data» = «data».now }))) 0 }
+    ensures behind { result ≡ length (encoded (record { label = label.now; tracks = tracks.now; answers = answers.now; «data» = «data».now })) }
 {
     let end = put_sections(label, tracks, answers, data, area);
     cells::clear(&mut area[end..]);

@@ -1,6 +1,6 @@
 -- The stores of a rewrite: one fixed list in the papers' order, of which each step makes one (01, "Rewriting a sector"). It is made of the
 -- layout, the image, the cell at which the block's mark begins, the new mark and the N new bytes. Of the image only its length and the byte
--- after the block are looked at, and making a store leaves the list as it is (the law `stores-fixed`): so every step finds the same list.
+-- after the block are looked at, and making a store leaves the list as it is (the law `stores_fixed`): so every step finds the same list.
 use Rattle.std.specs.Prelude.{Bool, false, cond, List, [], ◌∷◌, ◌++◌, ℕ, suc, ◌+◌, ◌-◌, ◌*◌, ◌/◌, ◌%◌, eqb, ltb, length, get_or, set}
 use Rattle.coding.specs.Coding.{high, low}
 use Rattle.cells.specs.declared.Mode.{Mode}
@@ -84,6 +84,6 @@ module _ (l : Layout) (image : List ℕ) (place : ℕ) (mark : Mark) (contents :
       ++ (edge
       ++ (record { byte = mark_end l place; value = last_byte l.mode mark } ∷ [])))
 
--- How many they are: 2N + 7, or 2N + 6 in FM and at the image's end. (The law `stores-count` says that N bytes make a list of this length.)
+-- How many they are: 2N + 7, or 2N + 6 in FM and at the image's end. (The law `stores_count` says that N bytes make a list of this length.)
 unfoldable pub store_count : Layout → (place bytes : ℕ) → ℕ
 store_count l place bytes = 2 * l.size + cond (follows l.mode (block_end l place) bytes) 7 6

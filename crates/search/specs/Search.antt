@@ -54,7 +54,7 @@ module _ (mode : Mode) (c : ℕ → ℕ) (n : ℕ) (kinds : Kinds) where
   unfoldable pub sought : ℕ → Mark → Bool
   sought p mark = among kinds mark && stands mode c n mark p
 
-  -- Which mark of the kinds stands at p, if one does; no two can (the law `one-mark`).
+  -- Which mark of the kinds stands at p, if one does; no two can (the law `one_mark`).
   unfoldable pub standing : ℕ → Found
   standing p =
       choose (sought p Identifier) (At p Identifier)

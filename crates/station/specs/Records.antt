@@ -15,7 +15,7 @@ record_width = 3
 abbrev pub record_numbers : Record → List ℕ
 record_numbers r = answer_number r.answer ∷ r.place ∷ r.clocks ∷ []
 
--- The record that has these numbers (the law `record-back`). A first number that is no answer's counts as 21; the others are taken as they are
+-- The record that has these numbers (the law `record_back`). A first number that is no answer's counts as 21; the others are taken as they are
 -- (02, Req 06), and one that is missing counts as 0.
 abbrev pub numbered_record : List ℕ → Record
 numbered_record given = record { answer = answer_of (get_or given 0 0); place = get_or given 1 0; clocks = get_or given 2 0 }

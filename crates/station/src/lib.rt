@@ -154,7 +154,7 @@ pub fn station_file_write(
     area: &mut [u8],
     length: &mut [u32; 1],
 ) -> u8
-    ensures { GivesFileWrite (record { label = label.entry.now; tracks = tracks.now; answers = answers.now; «data» = «data».now }) (listLength area.old) result area.new length.new }
+    ensures { GivesFileWrite (record { label = label.now; tracks = tracks.now; answers = answers.now; «data» = «data».now }) (listLength area.old) result area.new length.new }
 {
     let answer = file::write(label, tracks, answers, data, area);
     *length = files::written_length(answer);

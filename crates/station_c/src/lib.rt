@@ -147,7 +147,7 @@ pub extern "C" fn station_file_write(
     area: &mut [u8],
     length: &mut [u32; 1],
 ) -> u8
-    ensures { GivesFileWrite (record { label = label.entry.now; tracks = tracks.now; answers = answers.now; «data» = «data».now }) (listLength area.old) result area.new length.new }
+    ensures { GivesFileWrite (record { label = label.now; tracks = tracks.now; answers = answers.now; «data» = «data».now }) (listLength area.old) result area.new length.new }
 {
     station::station_file_write(label, tracks, answers, data, area, length)
 }

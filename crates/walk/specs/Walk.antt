@@ -31,7 +31,7 @@ edc_right mode c mark p k = eqb (edc_of (covered mode mark ++ data_bytes c p k))
 
 module _ (l : Layout) (n : ℕ) where
   -- Step 4: the block whose mark begins at m. If it is within the image the walk goes on after it; if not the walk ends, for from the
-  -- image's end on no mark is found (the law `walk-past`).
+  -- image's end on no mark is found (the law `walk_past`).
   unfoldable pub claimed : ℕ → ℕ → Bool → Round
   claimed sector m true = Meets (Accepted sector (Within m)) (m + block_cells l)
   claimed sector m false = Meets (Accepted sector (Beyond m)) n
