@@ -4,7 +4,7 @@
  *
  * The functions are in target/staticlib/libstation.a, which bin/library makes for x86-64 programs. Each is proved to do what is
  * said at its prototype, for all arguments, and to touch no byte but those it is lent. The archive has no variable and calls nothing but
- * memset: nothing is kept from one call to the next, and nothing is allocated.
+ * memset and memmove: nothing is kept from one call to the next, and nothing is allocated.
  *
  * What is lent. An area is a pointer to its first byte and, where the length is not fixed, the number of its bytes, NAME_length; of stamps, which
  * have four bytes each and the alignment of a uint32_t, that is their number.

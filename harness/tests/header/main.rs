@@ -59,12 +59,12 @@ fn the_declarations_in_rust_are_what_is_exported() {
     println!("header: {} declarations in Rust as exported", declared.len());
 }
 
-/// The files below a folder with an ending.
+/// The files below a folder with an ending, but for what a crate's out/ holds, which is made of the others.
 fn below(folder: &Path, ending: &str) -> Vec<PathBuf> {
     let mut found = Vec::new();
     for entry in fs::read_dir(folder).expect("a folder of sources") {
         let path = entry.expect("an entry").path();
-        if path.is_dir() {
+        if path.is_dir() && !path.ends_with("out") {
             found.extend(below(&path, ending));
         } else if path.extension().map_or(false, |its| its == ending) {
             found.push(path);
