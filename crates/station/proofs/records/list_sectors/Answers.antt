@@ -1,7 +1,7 @@
 -- `list_sectors` meets its contract: what is left to list from index i on ends where the whole does.
 use borrow.Author.Rules.{rules}
 use mathlib.Core.Path.{sym, ap, ◌∙◌}
-use Prim.Native.Nat.{ℕ, ◌-◌}
+use Prim.Native.Nat.{ℕ}
 use lib.ListN.{length, length-set, length-replicate}
 use Rattle.station.proofs.Listing.{listed_turn, listed_end, listed_start}
 use Rattle.station.proofs.records.list_sectors.Goals as goal
