@@ -1,4 +1,6 @@
 -- `answer_after` meets its contract: its flags are the definition's tests, in the definition's order.
+use Rattle.std.proofs.Common.{◌≡◌, true, arith}
+use Rattle.std.proofs.lemmas.Grind.{common_steps}
 use Rattle.answers.specs.Letters.{answer_after}
 use Rattle.answers.proofs.answer_after.Goals as goal
 
@@ -8,11 +10,15 @@ returns-then-defective c = rw (← c.is_control-control.ensures, c.if-defective.
 
 pub returns-then-not-right : goal.returns-then-not-right
 unfolding answer_after
-returns-then-not-right c = rw (← c.is_control-control.ensures, c.if-defective.false, c.if-not-right.true)
+returns-then-not-right c =
+    let e = c.is_control-control.ensures in
+    rw (← e, c.if-not-right.true) (grind (arith, common_steps))
 
 pub returns-then-forbidden : goal.returns-then-forbidden
 unfolding answer_after
-returns-then-forbidden c = rw (← c.is_control-control.ensures, c.if-defective.false, c.if-not-right.false, c.if-forbidden.true)
+returns-then-forbidden c =
+    let right : c.args.right ≡ true = cc in
+    rw (← c.is_control-control.ensures, c.if-defective.false, right, c.if-forbidden.true)
 
 pub returns-then-control : goal.returns-then-control
 unfolding answer_after
