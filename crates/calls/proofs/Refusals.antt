@@ -13,8 +13,7 @@ use Rattle.verdicts.proofs.Tests.{clash, append_passed, append_refused, by_map}
 use Rattle.calls.specs.declared.Refusal.{Refusal}
 use Rattle.calls.specs.declared.Refusal.TheVariants.{ImageLength, CylinderNumber, SideNumber, LayoutNumber, AreaLength, MarkBytes, ControlRecord}
 use Rattle.calls.specs.declared.Refusal.TheVariants.{Overfull, SectorNumber, Unreadable, OffBoundary, Finished, NoBlock}
-use Rattle.calls.specs.declared.Checked.{Checked}
-use Rattle.calls.specs.declared.Checked.TheVariants.{Passed, Refused}
+use Rattle.std.specs.Prelude.{⊤, Result, Ok, Err, IsErrAnd}
 use Rattle.calls.specs.Refusals.{refusal_number, checked_number, told, sector_test}
 
 -- The refusal of a number.
@@ -63,24 +62,29 @@ number_known Finished = (omega arith, omega arith)
 number_known NoBlock = (omega arith, omega arith)
 
 -- A test's answer tells the verdict.
-pub told_passed : (v : Verdict Refusal) (x : Checked) → x ≡ told v → x ≡ Passed → v ≡ passed
+pub told_passed : (v : Verdict Refusal) (x : Result ⊤ Refusal) → x ≡ told v → x ≡ Ok _ → v ≡ passed
 unfolding told by
 told_passed passed x e h = refl
 told_passed (refused f) x e h = absurd (clash cc)
 
-pub told_refused : (v : Verdict Refusal) (x : Checked) (f : Refusal) → x ≡ told v → x ≡ Refused f → v ≡ refused f
+pub told_refused : (v : Verdict Refusal) (x : Result ⊤ Refusal) (f : Refusal) → x ≡ told v → x ≡ Err f → v ≡ refused f
 unfolding told by
 told_refused passed x f e h = absurd (clash cc)
 told_refused (refused g) x f e h = cc
 
--- Where the tests ys follow the tests xs, of which x is told: x refuses and none that follows is asked, or those that follow decide.
-module _ (xs ys : List (Test Refusal)) (x : Checked) (e : x ≡ told (refusal xs)) where
-  pub then_refused : (f : Refusal) → x ≡ Refused f → x ≡ told (refusal (xs ++ ys))
+-- Where the tests ys follow the tests xs: these refuse and none that follows is asked, or those that follow decide.
+module _ (xs ys : List (Test Refusal)) where
+  pub then_refused : (f : Refusal) → Err f ≡ told (refusal xs) → Err f ≡ told (refusal (xs ++ ys))
   unfolding told by
-  then_refused f h = h ∙ sym (ap told (append_refused xs ys f (told_refused (refusal xs) x f e h)))
+  then_refused f e = sym (ap told (append_refused xs ys f (told_refused (refusal xs) (Err f) f e refl)))
 
-  pub then_passed : x ≡ Passed → told (refusal ys) ≡ told (refusal (xs ++ ys))
-  then_passed h = sym (ap told (append_passed xs ys (told_passed (refusal xs) x e h)))
+  -- of what `?` hands on
+  pub handed_on : (f : Refusal) (r : Result ⊤ Refusal) → Err f ≡ told (refusal xs) → IsErrAnd r (λ e. e ≡ f) → r ≡ told (refusal (xs ++ ys))
+  handed_on f (Ok _) e h = absurd h
+  handed_on f (Err g) e h = ap Err h ∙ then_refused f e
+
+  pub then_passed : Ok _ ≡ told (refusal xs) → told (refusal ys) ≡ told (refusal (xs ++ ys))
+  then_passed e = sym (ap told (append_passed xs ys (told_passed (refusal xs) (Ok _) e refl)))
 
 -- ---- two conditions, neither of which holds
 
@@ -94,12 +98,12 @@ or_right false b e = e
 
 -- ---- what a call answers by its verdict v, of which x is told
 
-module _ {A : Type 0} (this : A) (that : Refusal → A) (v : Verdict Refusal) (x : Checked) (e : x ≡ told v) where
-  pub answer_refused : (f : Refusal) → x ≡ Refused f → that f ≡ by v this that
+module _ {A : Type 0} (this : A) (that : Refusal → A) (v : Verdict Refusal) (x : Result ⊤ Refusal) (e : x ≡ told v) where
+  pub answer_refused : (f : Refusal) → x ≡ Err f → that f ≡ by v this that
   unfolding by
   answer_refused f h = sym (ap (λ (y : Verdict Refusal). by y this that) (told_refused v x f e h))
 
-  pub answer_passed : x ≡ Passed → this ≡ by v this that
+  pub answer_passed : x ≡ Ok _ → this ≡ by v this that
   unfolding by
   answer_passed h = sym (ap (λ (y : Verdict Refusal). by y this that) (told_passed v x e h))
 
@@ -117,9 +121,9 @@ sector_known sectors sector h = (
 -- The number of what is told of a verdict.
 pub number_told : (v : Verdict Refusal) → checked_number (told v) ≡ by v 0 refusal_number
 unfolding told
-number_told v = by_map checked_number v Passed Refused
+number_told v = by_map checked_number v (Ok _) Err
 
 -- What is told of one that passes.
-pub told_passing : (v : Verdict Refusal) → v ≡ passed → Passed ≡ told v
+pub told_passing : (v : Verdict Refusal) → v ≡ passed → Ok _ ≡ told v
 unfolding told by
 told_passing v e = rw e

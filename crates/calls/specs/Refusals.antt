@@ -1,13 +1,11 @@
 -- The refusals of 01, with the numbers that its table "Refused calls" gives them, and the tests that several calls share.
-use Rattle.std.specs.Prelude.{not, ◌&&◌, ◌||◌, ℕ, ltb, eqb}
+use Rattle.std.specs.Prelude.{not, ◌&&◌, ◌||◌, ℕ, ltb, eqb, ⊤, Result, Ok, Err}
 use Rattle.marks.specs.Marks.{mark_byte}
 use Rattle.marks.specs.declared.Mark.TheVariants.{Data, Control}
 use Rattle.verdicts.specs.Tests.{Test, Verdict, by}
 use Rattle.calls.specs.declared.Refusal.{Refusal}
 use Rattle.calls.specs.declared.Refusal.TheVariants.{ImageLength, CylinderNumber, SideNumber, LayoutNumber, AreaLength, MarkBytes, ControlRecord}
 use Rattle.calls.specs.declared.Refusal.TheVariants.{Overfull, SectorNumber, Unreadable, OffBoundary, Finished, NoBlock}
-use Rattle.calls.specs.declared.Checked.{Checked}
-use Rattle.calls.specs.declared.Checked.TheVariants.{Passed, Refused}
 
 -- The number of a refusal (01, "Refused calls").
 abbrev pub refusal_number : Refusal → ℕ
@@ -26,13 +24,13 @@ refusal_number Finished = 12
 refusal_number NoBlock = 13
 
 -- What a function that tests a call answers: the verdict of its tests.
-unfoldable pub told : Verdict Refusal → Checked
-told v = by v Passed Refused
+unfoldable pub told : Verdict Refusal → Result ⊤ Refusal
+told v = by v (Ok _) Err
 
 -- The number of a call's answer: 0 where it passes, else the refusal's.
-abbrev pub checked_number : Checked → ℕ
-checked_number Passed = 0
-checked_number (Refused f) = refusal_number f
+abbrev pub checked_number : Result ⊤ Refusal → ℕ
+checked_number (Ok _) = 0
+checked_number (Err f) = refusal_number f
 
 -- The most bytes of an image that is read or rewritten (01, "Refused calls", 1).
 abbrev pub longest_image : ℕ

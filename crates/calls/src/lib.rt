@@ -14,7 +14,7 @@ pub const LONGEST_IMAGE: usize = 24576;
 pub const LETTER_D: u8 = 0x44;
 
 // Why a call is refused, in the order of the papers' numbers.
-#[derive(Clone, Copy)]
+#[derive(Clone, Copy, Debug, PartialEq, Eq)]
 pub enum Refusal {
     // image length: read and rewrite 1 to LONGEST_IMAGE bytes; format the table's value
     ImageLength,
@@ -44,58 +44,51 @@ pub enum Refusal {
     NoBlock,
 }
 
-// The answer of a function that tests a call.
-#[derive(Clone, Copy)]
-pub enum Checked {
-    // no test applies
-    Passed,
-    // the first test that applies gives this
-    Refused(Refusal),
-}
-
 // The number that the papers give a refusal.
-pub fn refusal_number(refusal: Refusal) -> u8
-    ensures { IsRefusalNumber refusal result }
-{
-    match refusal {
-        Refusal::ImageLength => 1,
-        Refusal::CylinderNumber => 2,
-        Refusal::SideNumber => 3,
-        Refusal::LayoutNumber => 4,
-        Refusal::AreaLength => 5,
-        Refusal::MarkBytes => 6,
-        Refusal::ControlRecord => 7,
-        Refusal::Overfull => 8,
-        Refusal::SectorNumber => 9,
-        Refusal::Unreadable => 10,
-        Refusal::OffBoundary => 11,
-        Refusal::Finished => 12,
-        Refusal::NoBlock => 13,
+impl From<Refusal> for u8 {
+    ghost from_gives = { IsRefusalNumber };
+
+    fn from(refusal: Refusal) -> u8 {
+        match refusal {
+            Refusal::ImageLength => 1,
+            Refusal::CylinderNumber => 2,
+            Refusal::SideNumber => 3,
+            Refusal::LayoutNumber => 4,
+            Refusal::AreaLength => 5,
+            Refusal::MarkBytes => 6,
+            Refusal::ControlRecord => 7,
+            Refusal::Overfull => 8,
+            Refusal::SectorNumber => 9,
+            Refusal::Unreadable => 10,
+            Refusal::OffBoundary => 11,
+            Refusal::Finished => 12,
+            Refusal::NoBlock => 13,
+        }
     }
 }
 
 // The number of a call's answer: 0, or the refusal's.
-pub fn checked_number(answer: Checked) -> u8
+pub fn checked_number(answer: Result<(), Refusal>) -> u8
     ensures { IsCheckedNumber answer result }
 {
     match answer {
-        Checked::Passed => 0,
-        Checked::Refused(refusal) => refusal_number(refusal),
+        Ok(()) => 0,
+        Err(refusal) => u8::from(refusal),
     }
 }
 
 // What one test says. Its flags are joined by `|` and `&`: there is no branch that a proof would have to follow.
-pub fn tested(applies: bool, gives: Refusal) -> Checked
+pub fn tested(applies: bool, gives: Refusal) -> Result<(), Refusal>
     ensures { IsTested applies gives result }
 {
     if applies {
-        return Checked::Refused(gives);
+        return Err(gives);
     }
-    Checked::Passed
+    Ok(())
 }
 
 // The length of an image that is read or rewritten: refused 1.
-pub fn image_length(length: usize) -> Checked
+pub fn image_length(length: usize) -> Result<(), Refusal>
     ensures { IsImageLength length result }
 {
     tested(
@@ -105,14 +98,14 @@ pub fn image_length(length: usize) -> Checked
 }
 
 // The length of a data area: refused 5.
-pub fn area_length(wanted: usize, given: usize) -> Checked
+pub fn area_length(wanted: usize, given: usize) -> Result<(), Refusal>
     ensures { IsAreaLength wanted given result }
 {
     tested(given != wanted, Refusal::AreaLength)
 }
 
 // The byte of one mark: refused 6.
-pub fn mark_byte(mark: u32) -> Checked
+pub fn mark_byte(mark: u32) -> Result<(), Refusal>
     ensures { IsMarkByte mark result }
 {
     tested(
@@ -122,7 +115,7 @@ pub fn mark_byte(mark: u32) -> Checked
 }
 
 // The first data byte after a control mark: refused 7.
-pub fn control_record(cylinder: u32, mark: u32, first: u8) -> Checked
+pub fn control_record(cylinder: u32, mark: u32, first: u8) -> Result<(), Refusal>
     ensures { IsControlRecord cylinder mark first result }
 {
     tested(
@@ -132,7 +125,7 @@ pub fn control_record(cylinder: u32, mark: u32, first: u8) -> Checked
 }
 
 // The number of a sector among so many: refused 9.
-pub fn sector_number(sectors: usize, sector: u32) -> Checked
+pub fn sector_number(sectors: usize, sector: u32) -> Result<(), Refusal>
     ensures { IsSectorNumber sectors sector result }
 {
     tested(

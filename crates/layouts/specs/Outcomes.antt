@@ -1,10 +1,10 @@
 -- What each public function promises, over its inputs and its result r. Each fixes the result for all inputs.
-use Rattle.std.specs.Prelude.{◌≡◌, [], ◌∷◌, ℕ}
+use Rattle.std.specs.Prelude.{◌≡◌, [], ◌∷◌, ℕ, ⊤, Result}
 use Rattle.cells.specs.declared.Mode.{Mode}
 use Rattle.verdicts.specs.Tests.{refusal}
 use Rattle.layouts.specs.declared.Layout.{Layout}
 use Rattle.layouts.specs.declared.Track.{Track}
-use Rattle.calls.specs.declared.Checked.{Checked}
+use Rattle.calls.specs.declared.Refusal.{Refusal}
 use Rattle.layouts.specs.Layouts.{gap_byte, layout_of}
 use Rattle.layouts.specs.Tracks.{track_of}
 use Rattle.calls.specs.Refusals.{told}
@@ -27,13 +27,13 @@ abbrev pub IsTrack : (layout cylinder side : ℕ) → Track → Type 0
 IsTrack layout cylinder side r = r ≡ track_of layout cylinder side
 
 -- Passed, or refused 4 above the highest.
-abbrev pub IsLayoutNumber : (layout : ℕ) → Checked → Type 0
+abbrev pub IsLayoutNumber : (layout : ℕ) → Result ⊤ Refusal → Type 0
 IsLayoutNumber layout r = r ≡ told (refusal (number_test layout ∷ []))
 
 -- Passed, or refused by the first of 2, 3, 4.
-abbrev pub IsTrackNumbers : (layout cylinder side : ℕ) → Checked → Type 0
+abbrev pub IsTrackNumbers : (layout cylinder side : ℕ) → Result ⊤ Refusal → Type 0
 IsTrackNumbers layout cylinder side r = r ≡ told (refusal (track_tests layout cylinder side))
 
 -- Passed, or refused by the first of 2, 3, 4, 1.
-abbrev pub IsTrackAndImage : (layout cylinder side length : ℕ) → Checked → Type 0
+abbrev pub IsTrackAndImage : (layout cylinder side length : ℕ) → Result ⊤ Refusal → Type 0
 IsTrackAndImage layout cylinder side length r = r ≡ told (refusal (reading_tests layout cylinder side length))

@@ -6,13 +6,15 @@ ghost use Rattle.std.specs.Prelude.{◌≡◌};
 ghost use Rattle.layouts.specs.Tracks.{allowed};
 ghost use Rattle.layouts.specs.Outcomes.{IsGapByte, IsLayoutOf, IsTrack, IsLayoutNumber, IsTrackNumbers, IsTrackAndImage};
 
-use calls::{Checked, Refusal};
+use calls::Refusal;
 use cells::Mode;
 
+mod clauses;
 mod table;
 
-// The type of each layout, with its constants.
-pub use table::{Layout0, Layout1, Layout2, Layout3};
+// The type of each clause and of each layout, with its constants.
+pub use clauses::{Clause, Fm, Mfm};
+pub use table::{Layout0, Layout1, Layout2, Layout3, Numbered};
 
 // The MFM layouts are numbered from 1 to this.
 pub const HIGHEST_MFM: u32 = 3;
@@ -99,8 +101,8 @@ pub fn track_of(layout: u32, cylinder: u32, side: u32) -> Track
 {
     Track {
         layout: layout_of(layout),
-        cylinder: cylinder,
-        side: side,
+        cylinder,
+        side,
     }
 }
 
@@ -114,32 +116,29 @@ fn is_allowed(layout: u32, cylinder: u32, side: u32) -> bool
 }
 
 // The number of a layout where no track is named: refused 4.
-pub fn layout_number(layout: u32) -> Checked
+pub fn layout_number(layout: u32) -> Result<(), Refusal>
     ensures { IsLayoutNumber layout result }
 {
     calls::tested(HIGHEST < layout, Refusal::LayoutNumber)
 }
 
 // The numbers of a track: refused 2, 3 or 4.
-pub fn track_numbers(layout: u32, cylinder: u32, side: u32) -> Checked
+pub fn track_numbers(layout: u32, cylinder: u32, side: u32) -> Result<(), Refusal>
     ensures { IsTrackNumbers layout cylinder side result }
 {
     if HIGHEST_CYLINDER < cylinder {
-        return Checked::Refused(Refusal::CylinderNumber);
+        return Err(Refusal::CylinderNumber);
     }
     if HIGHEST_SIDE < side {
-        return Checked::Refused(Refusal::SideNumber);
+        return Err(Refusal::SideNumber);
     }
     calls::tested(!is_allowed(layout, cylinder, side), Refusal::LayoutNumber)
 }
 
 // The numbers of a track, and the length of its image that is read or rewritten: refused 2, 3, 4 or 1.
-pub fn track_and_image(layout: u32, cylinder: u32, side: u32, length: usize) -> Checked
+pub fn track_and_image(layout: u32, cylinder: u32, side: u32, length: usize) -> Result<(), Refusal>
     ensures { IsTrackAndImage layout cylinder side length result }
 {
-    let numbers = track_numbers(layout, cylinder, side);
-    let Checked::Passed = numbers else {
-        return numbers;
-    };
+    track_numbers(layout, cylinder, side)?;
     calls::image_length(length)
 }
