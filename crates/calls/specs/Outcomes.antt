@@ -9,7 +9,7 @@ abbrev pub IsRefusalNumber : Refusal → ℕ → Type 0
 IsRefusalNumber f r = r ≡ refusal_number f
 
 -- The number of the answer.
-abbrev pub IsCheckedNumber : Result ⊤ Refusal → ℕ → Type 0
+abbrev pub IsCheckedNumber : {T : Type 0} → Result T Refusal → ℕ → Type 0
 IsCheckedNumber answer r = r ≡ checked_number answer
 
 -- What one test says: passed, or refused by it.

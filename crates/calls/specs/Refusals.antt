@@ -28,7 +28,7 @@ unfoldable pub told : Verdict Refusal → Result ⊤ Refusal
 told v = by v (Ok _) Err
 
 -- The number of a call's answer: 0 where it passes, else the refusal's.
-abbrev pub checked_number : Result ⊤ Refusal → ℕ
+abbrev pub checked_number : {T : Type 0} → Result T Refusal → ℕ
 checked_number (Ok _) = 0
 checked_number (Err f) = refusal_number f
 

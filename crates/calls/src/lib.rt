@@ -67,12 +67,12 @@ impl From<Refusal> for u8 {
     }
 }
 
-// The number of a call's answer: 0, or the refusal's.
-pub fn checked_number(answer: Result<(), Refusal>) -> u8
+// The number of a call's answer, whatever it is: 0, or the refusal's.
+pub fn checked_number<T: Copy>(answer: Result<T, Refusal>) -> u8
     ensures { IsCheckedNumber answer result }
 {
     match answer {
-        Ok(()) => 0,
+        Ok(_) => 0,
         Err(refusal) => u8::from(refusal),
     }
 }

@@ -3,7 +3,7 @@
 
 ghost use Rattle.format.specs.Outcomes.{Formats};
 
-use calls::Checked;
+use calls::Refusal;
 use layouts::MOST_SECTORS;
 
 mod lengths;
@@ -24,14 +24,12 @@ pub fn format(
     data: &[u8],
     marks: &[u8],
     image: &mut [u8],
-) -> Checked
+) -> Result<(), Refusal>
     ensures { Formats layout cylinder side «data».now marks.now image.old result image.new }
 {
-    let tested = refusals::tested(layout, cylinder, side, data, marks, image.len());
-    if let Checked::Passed = tested {
-        let track = layouts::track_of(layout, cylinder, side);
-        let sectors = track.layout.sectors;
-        track::write_track(track, data, marks, &NATURAL[0..sectors], image);
-    }
-    tested
+    refusals::tested(layout, cylinder, side, data, marks, image.len())?;
+    let track = layouts::track_of(layout, cylinder, side);
+    let sectors = track.layout.sectors;
+    track::write_track(track, data, marks, &NATURAL[0..sectors], image);
+    Ok(())
 }

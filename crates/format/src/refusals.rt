@@ -6,7 +6,7 @@ ghost use Rattle.calls.specs.Refusals.{told};
 ghost use Rattle.format.specs.Refusals.{marks_test, controls_test, form_tests, content_tests, format_tests};
 
 use super::lengths::fields_of;
-use calls::{Checked, Refusal};
+use calls::Refusal;
 use layouts::Layout;
 
 // 6: whether there are more or fewer marks than sectors, or one is neither FB nor F8.
@@ -18,9 +18,9 @@ fn has_wrong_mark(sectors: usize, marks: &[u8]) -> bool
     }
     let mut i = 0;
     while i < marks.len() {
-        let Checked::Passed = calls::mark_byte(marks[i] as u32) else {
+        if calls::mark_byte(marks[i] as u32).is_err() {
             return true;
-        };
+        }
         i += 1;
     }
     false
@@ -34,10 +34,9 @@ fn has_wrong_control(layout: Layout, cylinder: u32, contents: &[u8], marks: &[u8
     let mut i = 0;
     let mut from = 0;
     while i < layout.sectors {
-        let Checked::Passed = calls::control_record(cylinder, marks[i] as u32, contents[from])
-        else {
+        if calls::control_record(cylinder, marks[i] as u32, contents[from]).is_err() {
             return true;
-        };
+        }
         from += layout.size;
         i += 1;
     }
@@ -45,17 +44,14 @@ fn has_wrong_control(layout: Layout, cylinder: u32, contents: &[u8], marks: &[u8
 }
 
 // The form of a call: 2, 3, 4, 1.
-fn form_tests(layout: u32, cylinder: u32, side: u32, length: usize) -> Checked
+fn form_tests(layout: u32, cylinder: u32, side: u32, length: usize) -> Result<(), Refusal>
     ensures { result ≡ told (refusal (form_tests layout cylinder side length)) }
 {
-    let numbers = layouts::track_numbers(layout, cylinder, side);
-    let Checked::Passed = numbers else {
-        return numbers;
-    };
+    layouts::track_numbers(layout, cylinder, side)?;
     if length != layouts::layout_of(layout).image_bytes {
-        return Checked::Refused(Refusal::ImageLength);
+        return Err(Refusal::ImageLength);
     }
-    Checked::Passed
+    Ok(())
 }
 
 // What is to be written: 5, 6, 7, 8.
@@ -65,24 +61,21 @@ fn content_tests(
     contents: &[u8],
     marks: &[u8],
     length: usize,
-) -> Checked
+) -> Result<(), Refusal>
     requires { (2 * fields layout ≤ 9223372036854775807) × (layout.area_bytes ≡ layout.sectors * layout.size) × (1 ≤ layout.size) × (1 ≤ layout.sectors) }
     ensures { result ≡ told (refusal (content_tests layout cylinder contents.now marks.now length)) }
 {
-    let area = calls::area_length(layout.area_bytes, contents.len());
-    let Checked::Passed = area else {
-        return area;
-    };
+    calls::area_length(layout.area_bytes, contents.len())?;
     if has_wrong_mark(layout.sectors, marks) {
-        return Checked::Refused(Refusal::MarkBytes);
+        return Err(Refusal::MarkBytes);
     }
     if has_wrong_control(layout, cylinder, contents, marks) {
-        return Checked::Refused(Refusal::ControlRecord);
+        return Err(Refusal::ControlRecord);
     }
     if length < 2 * fields_of(layout) {
-        return Checked::Refused(Refusal::Overfull);
+        return Err(Refusal::Overfull);
     }
-    Checked::Passed
+    Ok(())
 }
 
 // All the tests of a format: the form, and then the contents.
@@ -93,13 +86,10 @@ pub(crate) fn tested(
     contents: &[u8],
     marks: &[u8],
     length: usize,
-) -> Checked
+) -> Result<(), Refusal>
     ensures { result ≡ told (refusal (format_tests layout cylinder side contents.now marks.now length)) }
 {
-    let form = form_tests(layout, cylinder, side, length);
-    let Checked::Passed = form else {
-        return form;
-    };
+    form_tests(layout, cylinder, side, length)?;
     content_tests(
         layouts::layout_of(layout),
         cylinder,

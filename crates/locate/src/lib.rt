@@ -3,7 +3,7 @@
 
 ghost use Rattle.locate.specs.Outcomes.{Locates};
 
-use calls::{Checked, Refusal};
+use calls::Refusal;
 use walk::Block;
 
 mod locating;
@@ -18,18 +18,13 @@ pub enum Located {
     Single(Block),
     // more than one is
     Doubled,
-    // the call is refused
-    Refused(Refusal),
 }
 
 // Where the block of a sector is, on a track that the caller names.
-pub fn locate(layout: u32, cylinder: u32, side: u32, sector: u32, image: &[u8]) -> Located
+pub fn locate(layout: u32, cylinder: u32, side: u32, sector: u32, image: &[u8]) -> Result<Located, Refusal>
     ensures { Locates layout cylinder side sector image.now result }
 {
-    let tested = refusals::tested(layout, cylinder, side, image.len(), sector);
-    if let Checked::Refused(refusal) = tested {
-        return Located::Refused(refusal);
-    }
+    refusals::tested(layout, cylinder, side, image.len(), sector)?;
     let track = layouts::track_of(layout, cylinder, side);
-    locating::locate_block(track, sector as usize, image)
+    Ok(locating::locate_block(track, sector as usize, image))
 }

@@ -18,7 +18,6 @@ fn located_next(before: Located, block: Block) -> Located
         Located::Unmet => Located::Single(block),
         Located::Single(_) => Located::Doubled,
         Located::Doubled => Located::Doubled,
-        Located::Refused(_) => Located::Doubled,
     }
 }
 

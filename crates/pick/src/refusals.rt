@@ -4,31 +4,22 @@ ghost use Rattle.calls.specs.Refusals.{told};
 ghost use Rattle.verdicts.specs.Tests.{refusal};
 ghost use Rattle.pick.specs.Picks.{area_tests, pick_tests};
 
-use calls::Checked;
+use calls::Refusal;
 use layouts::Layout;
 
 // 9, and 5 of each area.
-fn area_tests(layout: Layout, sector: u32, first: usize, second: usize) -> Checked
+fn area_tests(layout: Layout, sector: u32, first: usize, second: usize) -> Result<(), Refusal>
     ensures { result ≡ told (refusal (area_tests layout sector first second)) }
 {
-    let number = calls::sector_number(layout.sectors, sector);
-    let Checked::Passed = number else {
-        return number;
-    };
-    let area = calls::area_length(layout.area_bytes, first);
-    let Checked::Passed = area else {
-        return area;
-    };
+    calls::sector_number(layout.sectors, sector)?;
+    calls::area_length(layout.area_bytes, first)?;
     calls::area_length(layout.area_bytes, second)
 }
 
 // 4, 9, 5 of a pick.
-pub(crate) fn pick_tested(layout: u32, sector: u32, first: usize, second: usize) -> Checked
+pub(crate) fn pick_tested(layout: u32, sector: u32, first: usize, second: usize) -> Result<(), Refusal>
     ensures { result ≡ told (refusal (pick_tests layout sector first second)) }
 {
-    let number = layouts::layout_number(layout);
-    let Checked::Passed = number else {
-        return number;
-    };
+    layouts::layout_number(layout)?;
     area_tests(layouts::layout_of(layout), sector, first, second)
 }

@@ -4,7 +4,7 @@ ghost use Rattle.calls.specs.Refusals.{told};
 ghost use Rattle.verdicts.specs.Tests.{refusal};
 ghost use Rattle.read.specs.Outcomes.{read_tests};
 
-use calls::Checked;
+use calls::Refusal;
 
 // 2, 3, 4, 1, 5: the track, the image's length and the area's.
 pub(crate) fn read_tested(
@@ -13,13 +13,10 @@ pub(crate) fn read_tested(
     side: u32,
     image: usize,
     area: usize,
-) -> Checked
+) -> Result<(), Refusal>
     ensures { result ≡ told (refusal (read_tests layout cylinder side image area)) }
 {
-    let first = layouts::track_and_image(layout, cylinder, side, image);
-    let Checked::Passed = first else {
-        return first;
-    };
+    layouts::track_and_image(layout, cylinder, side, image)?;
     let taken = layouts::layout_of(layout);
     calls::area_length(taken.area_bytes, area)
 }

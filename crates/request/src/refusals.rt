@@ -6,26 +6,19 @@ ghost use Rattle.request.specs.Refusals.{contents_tests, call_tests, cell_of, pl
 ghost use Rattle.request.specs.Outcomes.{first_plan};
 ghost use Rattle.request.specs.declared.Requested.TheVariants as request;
 
-use super::Requested;
-use calls::{Checked, Refusal};
+use calls::Refusal;
 use layouts::Layout;
 use locate::Located;
 use rewrite::Plan;
 use walk::Block;
 
 // 5, 6, 7: the sector's new bytes and their mark.
-fn contents_tests(layout: Layout, cylinder: u32, mark: u32, contents: &[u8]) -> Checked
+fn contents_tests(layout: Layout, cylinder: u32, mark: u32, contents: &[u8]) -> Result<(), Refusal>
     requires { 1 ≤ layout.size }
     ensures { result ≡ told (refusal (contents_tests layout cylinder mark contents.now)) }
 {
-    let area = calls::area_length(layout.size, contents.len());
-    let Checked::Passed = area else {
-        return area;
-    };
-    let byte = calls::mark_byte(mark);
-    let Checked::Passed = byte else {
-        return byte;
-    };
+    calls::area_length(layout.size, contents.len())?;
+    calls::mark_byte(mark)?;
     calls::control_record(cylinder, mark, contents[0])
 }
 
@@ -38,36 +31,30 @@ pub(crate) fn call_tests(
     mark: u32,
     contents: &[u8],
     length: usize,
-) -> Checked
+) -> Result<(), Refusal>
     ensures { result ≡ told (refusal (call_tests layout cylinder side sector mark contents.now length)) }
 {
-    let first = layouts::track_and_image(layout, cylinder, side, length);
-    let Checked::Passed = first else {
-        return first;
-    };
+    layouts::track_and_image(layout, cylinder, side, length)?;
     let taken = layouts::layout_of(layout);
-    let number = calls::sector_number(taken.sectors, sector);
-    let Checked::Passed = number else {
-        return number;
-    };
+    calls::sector_number(taken.sectors, sector)?;
     contents_tests(taken, cylinder, mark, contents)
 }
 
 // 10 and 11: the plan for the block that the walk located. (The walk itself refuses no call that has passed the tests before it.)
-pub(crate) fn noted(layout: u32, located: Located) -> Requested
+pub(crate) fn noted(layout: u32, located: Located) -> Result<Plan, Refusal>
     requires { cell_of located < 4294967296 }
     ensures { result ≡ by (refusal (place_tests located)) (request.Planned (first_plan layout located)) request.Refused }
 {
     let Located::Single(block) = located else {
-        return Requested::Refused(Refusal::Unreadable);
+        return Err(Refusal::Unreadable);
     };
     let Block::Within(cell) = block else {
-        return Requested::Refused(Refusal::Unreadable);
+        return Err(Refusal::Unreadable);
     };
     if cell % 8 != 0 {
-        return Requested::Refused(Refusal::OffBoundary);
+        return Err(Refusal::OffBoundary);
     }
-    Requested::Planned(Plan {
+    Ok(Plan {
         layout,
         place: cell as u32,
         made: 0,

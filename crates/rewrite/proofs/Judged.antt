@@ -14,8 +14,7 @@ use Rattle.layouts.specs.Refusals.{number_test}
 use Rattle.layouts.specs.declared.Layout.{Layout}
 use Rattle.calls.specs.declared.Refusal.{Refusal}
 use Rattle.calls.specs.declared.Refusal.TheVariants.{Finished, NoBlock}
-use Rattle.calls.specs.declared.Checked.{Checked}
-use Rattle.calls.specs.declared.Checked.TheVariants.{Passed, Refused}
+use Rattle.std.specs.Prelude.{⊤, Result, Ok, Err, IsErrAnd}
 use Rattle.calls.proofs.Refusals.{or_right, told_passed, then_passed, answer_refused, answer_passed}
 use Rattle.marks.specs.Marks.{mark_byte, mark_of}
 use Rattle.marks.specs.declared.Mark.TheVariants.{Data, Control}
@@ -28,7 +27,6 @@ use Rattle.rewrite.specs.Refusals.{holds_block, planned, block_test, finished_te
 use Rattle.rewrite.specs.Outcomes.{Steps, plan_after}
 use Rattle.rewrite.specs.declared.Plan.{Plan}
 use Rattle.rewrite.specs.declared.Store.{Store}
-use Rattle.rewrite.specs.declared.Stepped.TheVariants as step
 use Rattle.rewrite.proofs.Counted.{size_small, count_most}
 use Rattle.rewrite.proofs.Listed.{stores_count, kind, inside}
 
@@ -92,23 +90,22 @@ module _ (l : Layout) (plan : Plan) (mark : ℕ) (contents image : List ℕ) whe
     pub short : length image ≤ longest_image
     pub whole : length contents ≡ l.size
 
-  pub handed : (w r s t : Checked)
-      → w ≡ told (refusal (number_test plan.layout ∷ [])) → w ≡ Passed
-      → r ≡ told (refusal (image_test (length image) ∷ [])) → r ≡ Passed
-      → s ≡ told (refusal (area_test l.size (length contents) ∷ [])) → s ≡ Passed
-      → t ≡ told (refusal (mark_test mark ∷ [])) → t ≡ Passed → Handed
+  pub handed : Ok _ ≡ told (refusal (number_test plan.layout ∷ []))
+      → Ok _ ≡ told (refusal (image_test (length image) ∷ []))
+      → Ok _ ≡ told (refusal (area_test l.size (length contents) ∷ []))
+      → Ok _ ≡ told (refusal (mark_test mark ∷ [])) → Handed
   unfolding plan_tests
-  handed w r s t d n e p f q g u =
-      let one = first_passed _ _ (told_passed _ _ e p) in
-      let five = first_passed _ _ (told_passed _ _ f q) in
+  handed d e f g =
+      let one = first_passed _ _ (told_passed _ _ e refl) in
+      let five = first_passed _ _ (told_passed _ _ f refl) in
       record {
-        judged = then_passed _ _ t g u ∙ then_passed _ _ s f q ∙ then_passed _ _ r e p ∙ then_passed _ _ w d n;
+        judged = then_passed _ _ g ∙ then_passed _ _ f ∙ then_passed _ _ e ∙ then_passed _ _ d;
         short = ltb-false longest_image (length image) (or_right (eqb (length image) 0) _ one.0);
         whole = area_right l.size (length contents) five.0;
       }
 
   module _ (h : Handed) (b : Bool) (block_said : b ≡ holds_block l image plan.place) where
-    pub no_block : b ≡ false → Refused NoBlock ≡ told (refusal (plan_tests l plan mark contents image))
+    pub no_block : b ≡ false → Err NoBlock ≡ told (refusal (plan_tests l plan mark contents image))
     unfolding told by refusal
     no_block f = rw (← block_said, f) at h.judged
 
@@ -116,24 +113,29 @@ module _ (l : Layout) (plan : Plan) (mark : ℕ) (contents image : List ℕ) whe
       counted : count ≡ length (planned l plan mark contents image)
       counted = counts ∙ sym (stores_count l image plan.place (mark_of mark) contents h.whole)
 
-      pub finished : count ≤ plan.made → Refused Finished ≡ told (refusal (plan_tests l plan mark contents image))
+      pub finished : count ≤ plan.made → Err Finished ≡ told (refusal (plan_tests l plan mark contents image))
       unfolding told by refusal
       finished u = rw (← block_said, holds, ← counted, le-leb count plan.made u) at h.judged
 
-      pub unfinished : plan.made < count → Passed ≡ told (refusal (plan_tests l plan mark contents image))
+      pub unfinished : plan.made < count → Ok _ ≡ told (refusal (plan_tests l plan mark contents image))
       unfolding told by refusal
       unfinished u = rw (← block_said, holds, ← counted, lt-leb count plan.made u) at h.judged
 
--- ---- a step, of which x is told; l is its plan's layout
+-- ---- a step; l is its plan's layout
 
-module _ (plan : Plan) (mark : ℕ) (contents image : List ℕ) (l : Layout) (named : l ≡ layout_of plan.layout)
-    (x : Checked) (tested : x ≡ told (refusal (plan_tests l plan mark contents image))) where
-  said : x ≡ told (refusal (step_tests plan mark contents image))
-  said = tested ∙ ap (λ (k : Layout). told (refusal (plan_tests k plan mark contents image))) named
+module _ (plan : Plan) (mark : ℕ) (contents image : List ℕ) (l : Layout) (named : l ≡ layout_of plan.layout) where
+  said : (x : Result ⊤ Refusal) → x ≡ told (refusal (plan_tests l plan mark contents image)) → x ≡ told (refusal (step_tests plan mark contents image))
+  said x tested = tested ∙ ap (λ (k : Layout). told (refusal (plan_tests k plan mark contents image))) named
 
-  -- It is refused.
-  pub refused_step : (f : Refusal) → x ≡ Refused f → Steps plan mark contents image (step.Refused f) image
-  refused_step f e = record { answers = answer_refused _ _ _ x said f e; leaves = answer_refused _ (λ g. image) _ x said f e }
+  -- It is refused, and `?` hands that on.
+  pub refused_step : (f : Refusal) → Err f ≡ told (refusal (plan_tests l plan mark contents image))
+      → (r : Result Plan Refusal) → IsErrAnd r (λ e. e ≡ f) → Steps plan mark contents image r image
+  refused_step f e (Ok _) h = absurd h
+  refused_step f e (Err g) h =
+      record {
+        answers = ap Err h ∙ answer_refused _ _ _ _ (said _ e) f refl;
+        leaves = answer_refused _ (λ g. image) _ _ (said _ e) f refl;
+      }
 
   -- What is known where all tests pass.
   pub record Accepted : Type 0 where
@@ -144,11 +146,11 @@ module _ (plan : Plan) (mark : ℕ) (contents image : List ℕ) (l : Layout) (na
     pub within : plan.made < store_count l plan.place (length image)
     pub few : plan.made < 131077
 
-  module _ (passes : x ≡ Passed) where
+  module _ (passes : Ok _ ≡ told (refusal (plan_tests l plan mark contents image))) where
     pub accepted : Accepted
     unfolding plan_tests
     accepted =
-        let four = first_passed _ _ (told_passed _ _ tested passes) in
+        let four = first_passed _ _ (told_passed _ _ passes refl) in
         let one = first_passed _ _ four.1 in
         let five = first_passed _ _ one.1 in
         let six = first_passed _ _ five.1 in
@@ -181,10 +183,10 @@ module _ (plan : Plan) (mark : ℕ) (contents image : List ℕ) (l : Layout) (na
       next_planned = next ∙ rw named
 
       -- The store is made.
-      pub made_step : Steps plan mark contents image (step.Made (plan_after plan)) (stored image s)
+      pub made_step : Steps plan mark contents image (Ok (plan_after plan)) (stored image s)
       made_step =
           record {
-            answers = answer_passed _ _ _ x said passes;
+            answers = answer_passed _ _ _ _ (said _ passes) refl;
             leaves =
-                ap (stored image) next_planned ∙ answer_passed _ (λ g. image) _ x said passes;
+                ap (stored image) next_planned ∙ answer_passed _ (λ g. image) _ _ (said _ passes) refl;
           }

@@ -1,14 +1,12 @@
 -- What each public function of this crate promises, for every plan, number, area and image.
-use Rattle.std.specs.Prelude.{List, [], ◌∷◌, ◌≡◌, ℕ, ◌+◌, get_or}
+use Rattle.std.specs.Prelude.{List, [], ◌∷◌, ◌≡◌, ℕ, ◌+◌, get_or, Result, Ok, Err}
 use Rattle.layouts.specs.Layouts.{layout_of}
-use Rattle.calls.specs.Refusals.{refusal_number}
+use Rattle.calls.specs.declared.Refusal.{Refusal}
 use Rattle.layouts.specs.Refusals.{number_test}
 use Rattle.verdicts.specs.Tests.{refusal, by}
 use Rattle.rewrite.specs.Stores.{stored, no_store, store_count}
 use Rattle.rewrite.specs.Refusals.{planned, step_tests}
 use Rattle.rewrite.specs.declared.Plan.{Plan}
-use Rattle.rewrite.specs.declared.Stepped.{Stepped}
-use Rattle.rewrite.specs.declared.Stepped.TheVariants as step
 
 -- ---- the number of stores
 
@@ -28,8 +26,8 @@ plan_after plan = record { layout = plan.layout; place = plan.place; made = plan
 
 module _ (plan : Plan) (mark : ℕ) (contents before : List ℕ) where
   -- What `step` answers: the refusal of the first test that applies, by its number alone, or the plan with the store counted.
-  abbrev pub step_answer : Stepped
-  step_answer = by (refusal (step_tests plan mark contents before)) (step.Made (plan_after plan)) step.Refused
+  abbrev pub step_answer : Result Plan Refusal
+  step_answer = by (refusal (step_tests plan mark contents before)) (Ok (plan_after plan)) Err
 
   -- What it leaves in the image: the one store that is next; a refused one leaves it as it was.
   abbrev pub step_image : List ℕ
@@ -39,11 +37,6 @@ module _ (plan : Plan) (mark : ℕ) (contents before : List ℕ) where
       (λ f. before)
 
 -- `step` refuses by the first test that applies, and then leaves the image as it was; else it makes the one store that is next, and counts it.
-pub record Steps (plan : Plan) (mark : ℕ) (contents before : List ℕ) (answer : Stepped) (after : List ℕ) : Type 0 where
+pub record Steps (plan : Plan) (mark : ℕ) (contents before : List ℕ) (answer : Result Plan Refusal) (after : List ℕ) : Type 0 where
   pub answers : answer ≡ step_answer plan mark contents before
   pub leaves : after ≡ step_image plan mark contents before
-
--- The number of a step's answer: 0 for a store made, else the refusal's (01, "Refused calls").
-abbrev pub stepped_number : Stepped → ℕ
-stepped_number (step.Made plan) = 0
-stepped_number (step.Refused f) = refusal_number f

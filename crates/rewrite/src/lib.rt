@@ -4,7 +4,7 @@
 
 ghost use Rattle.rewrite.specs.Outcomes.{CountsStores, Steps};
 
-use calls::{Checked, Refusal};
+use calls::Refusal;
 
 mod refusals;
 mod values;
@@ -27,35 +27,24 @@ pub struct Store {
     pub value: u8,
 }
 
-// What a step answers.
-#[derive(Clone, Copy)]
-pub enum Stepped {
-    // one store is made, and this is the plan for the next step
-    Made(Plan),
-    // nothing was changed, and the plan stays as it was
-    Refused(Refusal),
-}
-
 // How many stores a rewrite by the plan makes in an image of `bytes` bytes; none above the highest layout.
 pub fn stores_in_all(plan: Plan, bytes: usize) -> u32
     ensures { CountsStores plan bytes result }
 {
-    let Checked::Passed = layouts::layout_number(plan.layout) else {
+    let Ok(()) = layouts::layout_number(plan.layout) else {
         return 0;
     };
     let layout = layouts::layout_of(plan.layout);
     values::count_of(layout, plan.place as usize, bytes) as u32
 }
 
-// Makes the store that is next by the plan. `mark` is FB or F8, and `contents` the sector's bytes.
-pub fn step(plan: Plan, mark: u32, contents: &[u8], image: &mut [u8]) -> Stepped
+// Makes the store that is next by the plan, and answers the plan for the next step; refused, it changes nothing. `mark` is FB or F8, and `contents`
+// the sector's bytes.
+pub fn step(plan: Plan, mark: u32, contents: &[u8], image: &mut [u8]) -> Result<Plan, Refusal>
     ensures { Steps plan mark contents.now image.old result image.new }
 {
     let layout = layouts::layout_of(plan.layout);
-    let tested = refusals::plan_tests(layout, plan, mark, contents, image);
-    if let Checked::Refused(refusal) = tested {
-        return Stepped::Refused(refusal);
-    }
+    refusals::plan_tests(layout, plan, mark, contents, image)?;
     let store = values::store_of(
         layout,
         mark as u8,
@@ -64,10 +53,8 @@ pub fn step(plan: Plan, mark: u32, contents: &[u8], image: &mut [u8]) -> Stepped
         plan.place as usize,
         plan.made as usize,
     );
-    let at = store.byte;
-    let value = store.value;
-    image[at] = value;
-    Stepped::Made(Plan {
+    image[store.byte] = store.value;
+    Ok(Plan {
         layout: plan.layout,
         place: plan.place,
         made: plan.made + 1,

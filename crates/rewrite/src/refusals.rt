@@ -7,7 +7,7 @@ ghost use Rattle.rewrite.specs.Refusals.{holds_block, plan_tests};
 
 use super::Plan;
 use super::values::{block_end, count_of};
-use calls::{Checked, Refusal};
+use calls::Refusal;
 use layouts::Layout;
 use search::{BLOCK_MARKS, Found};
 
@@ -36,34 +36,22 @@ pub(crate) fn plan_tests(
     mark: u32,
     contents: &[u8],
     image: &[u8],
-) -> Checked
+) -> Result<(), Refusal>
     requires { layout.size ≤ 65535 }
     ensures { result ≡ told (refusal (plan_tests layout plan mark contents.now image.now)) }
 {
-    let number = layouts::layout_number(plan.layout);
-    let Checked::Passed = number else {
-        return number;
-    };
-    let length = calls::image_length(image.len());
-    let Checked::Passed = length else {
-        return length;
-    };
-    let area = calls::area_length(layout.size, contents.len());
-    let Checked::Passed = area else {
-        return area;
-    };
-    let byte = calls::mark_byte(mark);
-    let Checked::Passed = byte else {
-        return byte;
-    };
+    layouts::layout_number(plan.layout)?;
+    calls::image_length(image.len())?;
+    calls::area_length(layout.size, contents.len())?;
+    calls::mark_byte(mark)?;
     let place = plan.place as usize;
     if !holds_block(layout, image, place) {
-        return Checked::Refused(Refusal::NoBlock);
+        return Err(Refusal::NoBlock);
     }
     let count = count_of(layout, place, image.len());
     let made = plan.made as usize;
     if count <= made {
-        return Checked::Refused(Refusal::Finished);
+        return Err(Refusal::Finished);
     }
-    Checked::Passed
+    Ok(())
 }

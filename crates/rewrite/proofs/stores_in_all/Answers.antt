@@ -26,4 +26,4 @@ pub returns : goal.returns
 returns c =
     c.count_of.ensures
     ∙ ap (λ (l : Layout). store_count l c.args.plan.place c.args.bytes) c.layout_of-layout.ensures
-    ∙ answer_passed _ (λ f. 0) _ _ c.layout_number.ensures c.in-Passed.is
+    ∙ answer_passed _ (λ f. 0) _ _ c.layout_number.ensures c.in-Ok.is
