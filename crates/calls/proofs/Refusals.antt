@@ -13,7 +13,7 @@ use Rattle.verdicts.proofs.Tests.{clash, append_passed, append_refused, by_map}
 use Rattle.calls.specs.declared.Refusal.{Refusal}
 use Rattle.calls.specs.declared.Refusal.TheVariants.{ImageLength, CylinderNumber, SideNumber, LayoutNumber, AreaLength, MarkBytes, ControlRecord}
 use Rattle.calls.specs.declared.Refusal.TheVariants.{Overfull, SectorNumber, Unreadable, OffBoundary, Finished, NoBlock}
-use Rattle.std.specs.Prelude.{⊤, Result, Ok, Err, IsErrAnd}
+use Rattle.std.specs.Prelude.{⊤, Result, Ok, Err, IsErrAnd, is_err}
 use Rattle.calls.specs.Refusals.{refusal_number, checked_number, told, sector_test}
 
 -- The refusal of a number.
@@ -62,21 +62,21 @@ number_known Finished = (omega arith, omega arith)
 number_known NoBlock = (omega arith, omega arith)
 
 -- A test's answer tells the verdict.
-pub told_passed : (v : Verdict Refusal) (x : Result ⊤ Refusal) → x ≡ told v → x ≡ Ok _ → v ≡ passed
+pub told_passed : (v : Verdict Refusal) → Ok _ ≡ told v → v ≡ passed
 unfolding told by
-told_passed passed x e h = refl
-told_passed (refused f) x e h = absurd (clash cc)
+told_passed passed e = refl
+told_passed (refused f) e = absurd (clash cc)
 
-pub told_refused : (v : Verdict Refusal) (x : Result ⊤ Refusal) (f : Refusal) → x ≡ told v → x ≡ Err f → v ≡ refused f
+pub told_refused : (v : Verdict Refusal) (f : Refusal) → Err f ≡ told v → v ≡ refused f
 unfolding told by
-told_refused passed x f e h = absurd (clash cc)
-told_refused (refused g) x f e h = cc
+told_refused passed f e = absurd (clash cc)
+told_refused (refused g) f e = cc
 
 -- Where the tests ys follow the tests xs: these refuse and none that follows is asked, or those that follow decide.
 module _ (xs ys : List (Test Refusal)) where
   pub then_refused : (f : Refusal) → Err f ≡ told (refusal xs) → Err f ≡ told (refusal (xs ++ ys))
   unfolding told by
-  then_refused f e = sym (ap told (append_refused xs ys f (told_refused (refusal xs) (Err f) f e refl)))
+  then_refused f e = sym (ap told (append_refused xs ys f (told_refused (refusal xs) f e)))
 
   -- of what `?` hands on
   pub handed_on : (f : Refusal) (r : Result ⊤ Refusal) → Err f ≡ told (refusal xs) → IsErrAnd r (λ e. e ≡ f) → r ≡ told (refusal (xs ++ ys))
@@ -84,7 +84,7 @@ module _ (xs ys : List (Test Refusal)) where
   handed_on f (Err g) e h = ap Err h ∙ then_refused f e
 
   pub then_passed : Ok _ ≡ told (refusal xs) → told (refusal ys) ≡ told (refusal (xs ++ ys))
-  then_passed e = sym (ap told (append_passed xs ys (told_passed (refusal xs) (Ok _) e refl)))
+  then_passed e = sym (ap told (append_passed xs ys (told_passed (refusal xs) e)))
 
 -- ---- two conditions, neither of which holds
 
@@ -96,16 +96,40 @@ pub or_right : (a b : Bool) → (a || b) ≡ false → b ≡ false
 or_right true b e = absurd (clash cc)
 or_right false b e = e
 
--- ---- what a call answers by its verdict v, of which x is told
+-- ---- what a call answers by the verdict v of its tests
 
-module _ {A : Type 0} (this : A) (that : Refusal → A) (v : Verdict Refusal) (x : Result ⊤ Refusal) (e : x ≡ told v) where
-  pub answer_refused : (f : Refusal) → x ≡ Err f → that f ≡ by v this that
+module _ {A : Type 0} (this : A) (that : Refusal → A) (v : Verdict Refusal) where
+  pub answer_refused : (f : Refusal) → Err f ≡ told v → that f ≡ by v this that
   unfolding by
-  answer_refused f h = sym (ap (λ (y : Verdict Refusal). by y this that) (told_refused v x f e h))
+  answer_refused f e = sym (ap (λ (y : Verdict Refusal). by y this that) (told_refused v f e))
 
-  pub answer_passed : x ≡ Ok _ → this ≡ by v this that
+  pub answer_passed : Ok _ ≡ told v → this ≡ by v this that
   unfolding by
-  answer_passed h = sym (ap (λ (y : Verdict Refusal). by y this that) (told_passed v x e h))
+  answer_passed e = sym (ap (λ (y : Verdict Refusal). by y this that) (told_passed v e))
+
+-- The same by whether an answer r is an error.
+module _ {A : Type 0} (this other : A) (v : Verdict Refusal) (r : Result ⊤ Refusal) (e : r ≡ told v) where
+  pub answer_err : true ≡ is_err r → other ≡ by v this (λ f. other)
+  unfolding told by
+  answer_err h = go v (h ∙ ap is_err e)
+    where
+      go : (w : Verdict Refusal) → true ≡ is_err (told w) → other ≡ by w this (λ f. other)
+      go passed h = absurd (clash cc)
+      go (refused f) h = refl
+
+  pub answer_ok : false ≡ is_err r → this ≡ by v this (λ f. other)
+  unfolding told by
+  answer_ok h = go v (h ∙ ap is_err e)
+    where
+      go : (w : Verdict Refusal) → false ≡ is_err (told w) → this ≡ by w this (λ f. other)
+      go passed h = refl
+      go (refused f) h = absurd (clash cc)
+
+-- The same of a refusal that `?` hands on.
+pub answer_handed : {T : Type 0} (this : Result T Refusal) (v : Verdict Refusal) (f : Refusal) (r : Result T Refusal)
+    → Err f ≡ told v → IsErrAnd r (λ e. e ≡ f) → r ≡ by v this Err
+answer_handed this v f (Ok x) e h = absurd h
+answer_handed this v f (Err g) e h = ap Err h ∙ answer_refused this Err v f e
 
 -- A sector number that passes is one of the sectors'.
 pub sector_known : (sectors sector : ℕ) → (sector_test sectors sector).applies ≡ false → (1 ≤ sector) × (sector ≤ sectors)

@@ -5,14 +5,13 @@ use Rattle.walk.specs.declared.Block.{Block}
 use Rattle.walk.specs.declared.Event.{Event}
 use Rattle.walk.specs.declared.Event.TheVariants.{Bad, Foreign, Accepted}
 use Rattle.locate.specs.declared.Located.{Located}
-use Rattle.locate.specs.declared.Located.TheVariants.{Unmet, Single, Doubled, Refused}
+use Rattle.locate.specs.declared.Located.TheVariants.{Unmet, Single, Doubled}
 
 -- Once one more of the sector's identifiers was accepted.
 abbrev pub located_next : Located → Block → Located
 located_next Unmet b = Single b
 located_next (Single x) b = Doubled
 located_next Doubled b = Doubled
-located_next (Refused f) b = Doubled
 
 -- Once the walk has met an event more.
 abbrev pub located_after : ℕ → Located → Event → Located

@@ -11,11 +11,10 @@ use Rattle.calls.specs.Refusals.{told}
 use Rattle.layouts.specs.Tracks.{track_of}
 use Rattle.calls.specs.declared.Refusal.{Refusal}
 use Rattle.calls.specs.declared.Refusal.TheVariants.{Unreadable, OffBoundary}
-use Rattle.calls.specs.declared.Checked.{Checked}
-use Rattle.calls.specs.declared.Checked.TheVariants.{Passed, Refused}
-use Rattle.calls.proofs.Refusals.{told_passed, then_refused, answer_refused}
+use Rattle.std.specs.Prelude.{⊤, Result, Ok, Err, IsErrAnd}
+use Rattle.calls.proofs.Refusals.{told_passed, then_refused, answer_handed}
 use Rattle.verdicts.specs.Tests.{Verdict, passed, refusal, by}
-use Rattle.verdicts.proofs.Tests.{append_passed, passed_both}
+use Rattle.verdicts.proofs.Tests.{clash, append_passed, passed_both}
 use Rattle.locate.specs.Outcomes.{locate_tests, found, Locates}
 use Rattle.walk.specs.declared.Block.{Block}
 use Rattle.walk.specs.declared.Block.TheVariants.{Missing, Beyond, Within}
@@ -25,8 +24,7 @@ use Rattle.walk.proofs.Passing.{readable}
 use Rattle.locate.proofs.Fitting.{located_within}
 use Rattle.request.specs.Refusals.{call_tests, is_within, cell_of, place_tests, request_tests}
 use Rattle.request.specs.Outcomes.{first_plan, Requests}
-use Rattle.request.specs.declared.Requested.{Requested}
-use Rattle.request.specs.declared.Requested.TheVariants as request
+use Rattle.rewrite.specs.declared.Plan.{Plan}
 
 -- ---- 10 and 11
 
@@ -36,7 +34,6 @@ unfolding is_within
 not_single located.Unmet h = refl
 not_single (located.Single block) h = absurd (h block refl)
 not_single located.Doubled h = refl
-not_single (located.Refused f) h = refl
 
 pub not_within : (block : Block) → ((cell : ℕ) → block ≡ Within cell → ⊥) → is_within (located.Single block) ≡ false
 unfolding is_within
@@ -45,67 +42,72 @@ not_within (Beyond m) h = refl
 not_within (Within m) h = absurd (h m refl)
 
 -- What a request answers that has come as far as the walk.
-abbrev placed : ℕ → Located → Requested
-placed layout place = by (refusal (place_tests place)) (request.Planned (first_plan layout place)) request.Refused
+abbrev placed : ℕ → Located → Result Plan Refusal
+placed layout place = by (refusal (place_tests place)) (Ok (first_plan layout place)) Err
 
 module _ (layout : ℕ) (place : Located) where
-  pub not_located : is_within place ≡ false → request.Refused Unreadable ≡ placed layout place
+  pub not_located : is_within place ≡ false → Err Unreadable ≡ placed layout place
   unfolding by refusal place_tests
   not_located e = rw e
 
   module _ (m : ℕ) (is : place ≡ located.Single (Within m)) where
-    pub off_boundary : (m % 8 ≡ 0 → ⊥) → request.Refused OffBoundary ≡ placed layout place
+    pub off_boundary : (m % 8 ≡ 0 → ⊥) → Err OffBoundary ≡ placed layout place
     unfolding by refusal place_tests is_within cell_of
     off_boundary h = rw (is, ne_eqb (m % 8) 0 h)
 
-    pub on_boundary : m % 8 ≡ 0 → request.Planned (record { layout = layout; place = m; made = 0 }) ≡ placed layout place
+    pub on_boundary : m % 8 ≡ 0 → Ok (record { layout = layout; place = m; made = 0 }) ≡ placed layout place
     unfolding by refusal place_tests is_within cell_of
     on_boundary h = rw (is, eq-eqb (m % 8) 0 h)
 
--- ---- a request, of whose tests before the walk x is told
+-- ---- a request
 
-module _ (layout cylinder side sector mark : ℕ) (contents image : List ℕ) (x : Checked)
-    (said : x ≡ told (refusal (call_tests layout cylinder side sector mark contents (length image)))) where
-  -- One of them applies.
-  pub asked_wrong : (f : Refusal) → x ≡ Refused f → Requests layout cylinder side sector mark contents image (request.Refused f)
+module _ (layout cylinder side sector mark : ℕ) (contents image : List ℕ) where
+  -- One of its tests before the walk applies, and `?` hands that on.
+  pub asked_wrong : (f : Refusal) (r : Result Plan Refusal) → Err f ≡ told (refusal (call_tests layout cylinder side sector mark contents (length image)))
+      → IsErrAnd r (λ e. e ≡ f) → Requests layout cylinder side sector mark contents image r
   unfolding request_tests
-  asked_wrong f e = answer_refused _ _ _ x (then_refused _ _ x said f e) f e
+  asked_wrong f r e h = answer_handed _ _ f r (then_refused _ _ f e) h
 
   -- None applies, and this is what the walk answers.
-  module _ (right : x ≡ Passed) (place : Located) (walked : Locates layout cylinder side sector image place) where
+  module _ (right : Ok _ ≡ told (refusal (call_tests layout cylinder side sector mark contents (length image)))) where
     calls_passed : refusal (call_tests layout cylinder side sector mark contents (length image)) ≡ passed
-    calls_passed = told_passed _ x said right
+    calls_passed = told_passed _ right
 
     locate_passed : refusal (locate_tests layout cylinder side (length image) sector) ≡ passed
     unfolding call_tests
     locate_passed = (passed_both _ _ calls_passed).0
 
-    -- It is where the walk finds the block, for it refuses no such call.
-    walk_finds : place ≡ found layout cylinder side sector image
+    -- It refuses no such call.
+    pub not_walked : (f : Refusal) → Locates layout cylinder side sector image (Err f) → ⊥
     unfolding by
-    walk_finds = rw locate_passed at walked
+    not_walked f walked = let e : Err f ≡ Ok (found layout cylinder side sector image) = rw locate_passed at walked in clash cc
 
-    -- The cell that is noted fits the plan.
-    pub cell_small : cell_of place < 4294967296
-    unfolding locate_tests cell_of
-    cell_small = go place walk_finds
-      where
-        go : (p : Located) → p ≡ found layout cylinder side sector image → cell_of p < 4294967296
-        go (located.Single (Within m)) e =
-            let within = located_within (track_of layout cylinder side) (cell image) (8 * length image) sector m (sym e) in
-            let known = readable layout cylinder side (length image) (passed_both _ _ locate_passed).0 in
-            omega (arith, within, known.long)
-        go (located.Single Missing) e = omega arith
-        go (located.Single (Beyond m)) e = omega arith
-        go located.Unmet e = omega arith
-        go located.Doubled e = omega arith
-        go (located.Refused f) e = omega arith
+    module _ (place : Located) (walked : Locates layout cylinder side sector image (Ok place)) where
+      -- It is where the walk finds the block.
+      walk_finds : place ≡ found layout cylinder side sector image
+      unfolding by
+      walk_finds = let e : Ok place ≡ Ok (found layout cylinder side sector image) = rw locate_passed at walked in cc
 
-    -- 10 and 11 decide.
-    pub asked_right : (answer : Requested) → answer ≡ placed layout place → Requests layout cylinder side sector mark contents image answer
-    unfolding request_tests
-    asked_right answer e =
-        let at = found layout cylinder side sector image in
-        e
-        ∙ ap (placed layout) walk_finds
-        ∙ sym (ap (λ (v : Verdict Refusal). by v (request.Planned (first_plan layout at)) request.Refused) (append_passed _ _ calls_passed))
+      -- The cell that is noted fits the plan.
+      pub cell_small : cell_of place < 4294967296
+      unfolding locate_tests cell_of
+      cell_small = go place walk_finds
+        where
+          go : (p : Located) → p ≡ found layout cylinder side sector image → cell_of p < 4294967296
+          go (located.Single (Within m)) e =
+              let within = located_within (track_of layout cylinder side) (cell image) (8 * length image) sector m (sym e) in
+              let known = readable layout cylinder side (length image) (passed_both _ _ locate_passed).0 in
+              omega (arith, within, known.long)
+          go (located.Single Missing) e = omega arith
+          go (located.Single (Beyond m)) e = omega arith
+          go located.Unmet e = omega arith
+          go located.Doubled e = omega arith
+
+      -- 10 and 11 decide.
+      pub asked_right : (answer : Result Plan Refusal) → answer ≡ placed layout place → Requests layout cylinder side sector mark contents image answer
+      unfolding request_tests
+      asked_right answer e =
+          let at = found layout cylinder side sector image in
+          e
+          ∙ ap (placed layout) walk_finds
+          ∙ sym (ap (λ (v : Verdict Refusal). by v (Ok (first_plan layout at)) Err) (append_passed _ _ calls_passed))

@@ -9,7 +9,7 @@ use Rattle.verdicts.specs.Tests.{Test}
 use Rattle.locate.specs.Outcomes.{locate_tests, found}
 use Rattle.walk.specs.declared.Block.TheVariants.{Missing, Beyond, Within}
 use Rattle.locate.specs.declared.Located.{Located}
-use Rattle.locate.specs.declared.Located.TheVariants.{Unmet, Single, Doubled, Refused}
+use Rattle.locate.specs.declared.Located.TheVariants.{Unmet, Single, Doubled}
 
 -- 5, 6, 7: the sector's new bytes and their mark.
 unfoldable pub contents_tests : Layout → (cylinder mark : ℕ) → List ℕ → List (Test Refusal)
@@ -28,7 +28,6 @@ is_within (Single Missing) = false
 is_within (Single (Beyond m)) = false
 is_within (Single (Within m)) = true
 is_within Doubled = false
-is_within (Refused f) = false
 
 -- The cell at which that block's mark begins.
 unfoldable pub cell_of : Located → ℕ
@@ -37,7 +36,6 @@ cell_of (Single Missing) = 0
 cell_of (Single (Beyond m)) = 0
 cell_of (Single (Within m)) = m
 cell_of Doubled = 0
-cell_of (Refused f) = 0
 
 -- 10: reading answers 21, 22, 23 or 24 for the sector.
 abbrev pub unreadable_test : Located → Test Refusal

@@ -4,7 +4,6 @@ ghost use Rattle.calls.specs.Refusals.{told};
 ghost use Rattle.verdicts.specs.Tests.{refusal, by};
 ghost use Rattle.request.specs.Refusals.{contents_tests, call_tests, cell_of, place_tests};
 ghost use Rattle.request.specs.Outcomes.{first_plan};
-ghost use Rattle.request.specs.declared.Requested.TheVariants as request;
 
 use calls::Refusal;
 use layouts::Layout;
@@ -43,7 +42,7 @@ pub(crate) fn call_tests(
 // 10 and 11: the plan for the block that the walk located. (The walk itself refuses no call that has passed the tests before it.)
 pub(crate) fn noted(layout: u32, located: Located) -> Result<Plan, Refusal>
     requires { cell_of located < 4294967296 }
-    ensures { result ≡ by (refusal (place_tests located)) (request.Planned (first_plan layout located)) request.Refused }
+    ensures { result ≡ by (refusal (place_tests located)) (Ok (first_plan layout located)) Err }
 {
     let Located::Single(block) = located else {
         return Err(Refusal::Unreadable);

@@ -15,7 +15,7 @@ use Rattle.layouts.specs.declared.Layout.{Layout}
 use Rattle.calls.specs.declared.Refusal.{Refusal}
 use Rattle.calls.specs.declared.Refusal.TheVariants.{Finished, NoBlock}
 use Rattle.std.specs.Prelude.{⊤, Result, Ok, Err, IsErrAnd}
-use Rattle.calls.proofs.Refusals.{or_right, told_passed, then_passed, answer_refused, answer_passed}
+use Rattle.calls.proofs.Refusals.{or_right, told_passed, then_passed, answer_refused, answer_passed, answer_handed}
 use Rattle.marks.specs.Marks.{mark_byte, mark_of}
 use Rattle.marks.specs.declared.Mark.TheVariants.{Data, Control}
 use Rattle.search.specs.Search.{block_marks, is_found, standing, is_standing}
@@ -96,8 +96,8 @@ module _ (l : Layout) (plan : Plan) (mark : ℕ) (contents image : List ℕ) whe
       → Ok _ ≡ told (refusal (mark_test mark ∷ [])) → Handed
   unfolding plan_tests
   handed d e f g =
-      let one = first_passed _ _ (told_passed _ _ e refl) in
-      let five = first_passed _ _ (told_passed _ _ f refl) in
+      let one = first_passed _ _ (told_passed _ e) in
+      let five = first_passed _ _ (told_passed _ f) in
       record {
         judged = then_passed _ _ g ∙ then_passed _ _ f ∙ then_passed _ _ e ∙ then_passed _ _ d;
         short = ltb-false longest_image (length image) (or_right (eqb (length image) 0) _ one.0);
@@ -130,12 +130,7 @@ module _ (plan : Plan) (mark : ℕ) (contents image : List ℕ) (l : Layout) (na
   -- It is refused, and `?` hands that on.
   pub refused_step : (f : Refusal) → Err f ≡ told (refusal (plan_tests l plan mark contents image))
       → (r : Result Plan Refusal) → IsErrAnd r (λ e. e ≡ f) → Steps plan mark contents image r image
-  refused_step f e (Ok _) h = absurd h
-  refused_step f e (Err g) h =
-      record {
-        answers = ap Err h ∙ answer_refused _ _ _ _ (said _ e) f refl;
-        leaves = answer_refused _ (λ g. image) _ _ (said _ e) f refl;
-      }
+  refused_step f e r h = record { answers = answer_handed _ _ f r (said _ e) h; leaves = answer_refused _ (λ g. image) _ f (said _ e) }
 
   -- What is known where all tests pass.
   pub record Accepted : Type 0 where
@@ -150,7 +145,7 @@ module _ (plan : Plan) (mark : ℕ) (contents image : List ℕ) (l : Layout) (na
     pub accepted : Accepted
     unfolding plan_tests
     accepted =
-        let four = first_passed _ _ (told_passed _ _ passes refl) in
+        let four = first_passed _ _ (told_passed _ passes) in
         let one = first_passed _ _ four.1 in
         let five = first_passed _ _ one.1 in
         let six = first_passed _ _ five.1 in
@@ -186,7 +181,7 @@ module _ (plan : Plan) (mark : ℕ) (contents image : List ℕ) (l : Layout) (na
       pub made_step : Steps plan mark contents image (Ok (plan_after plan)) (stored image s)
       made_step =
           record {
-            answers = answer_passed _ _ _ _ (said _ passes) refl;
+            answers = answer_passed _ _ _ (said _ passes);
             leaves =
-                ap (stored image) next_planned ∙ answer_passed _ (λ g. image) _ _ (said _ passes) refl;
+                ap (stored image) next_planned ∙ answer_passed _ (λ g. image) _ (said _ passes);
           }

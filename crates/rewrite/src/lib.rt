@@ -31,9 +31,9 @@ pub struct Store {
 pub fn stores_in_all(plan: Plan, bytes: usize) -> u32
     ensures { CountsStores plan bytes result }
 {
-    let Ok(()) = layouts::layout_number(plan.layout) else {
+    if layouts::layout_number(plan.layout).is_err() {
         return 0;
-    };
+    }
     let layout = layouts::layout_of(plan.layout);
     values::count_of(layout, plan.place as usize, bytes) as u32
 }

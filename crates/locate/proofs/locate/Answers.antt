@@ -1,8 +1,9 @@
 -- `locate` meets its contract: the tests decide, and what passes them is looked for.
 use mathlib.Core.Path.{ap, ◌∙◌}
 use native.Mathlib.Omega.{arith}
+use Rattle.std.specs.Prelude.{Ok}
 use Rattle.layouts.specs.declared.Track.{Track}
-use Rattle.calls.proofs.Refusals.{told_passed, answer_refused, answer_passed}
+use Rattle.calls.proofs.Refusals.{told_passed, answer_handed, answer_passed}
 use Rattle.verdicts.proofs.Tests.{passed_both}
 use Rattle.walk.specs.Events.{blocks}
 use Rattle.locate.specs.Outcomes.{located, locate_tests}
@@ -10,18 +11,17 @@ use Rattle.walk.specs.Outcomes.{met}
 use Rattle.walk.proofs.Passing.{readable}
 use Rattle.locate.proofs.locate.Goals as goal
 
-pub returns-in-Refused : goal.returns-in-Refused
-returns-in-Refused c = answer_refused _ _ _ _ c.tested-tested.ensures _ c.in-Refused.is
+pub returns-in_err-tested : goal.returns-in_err-tested
+returns-in_err-tested c = answer_handed _ _ _ _ c.in_err-tested.ensures c.from_residual.ensures.1
 
 pub locate_block-requires : goal.locate_block-requires
 unfolding locate_tests
 locate_block-requires c =
-    let passes = told_passed _ _ c.tested-tested.ensures c.in_default.is in
+    let passes = told_passed _ c.in_ok-tested.ensures in
     omega (arith, (readable _ _ _ _ (passed_both _ _ passes).0).long)
 
 pub returns : goal.returns
 returns c =
     let a = c.args in
-    c.locate_block.ensures
-    ∙ ap (λ (t : Track). located (blocks a.sector (met t a.image.now))) c.track_of-track.ensures
-    ∙ answer_passed _ _ _ _ c.tested-tested.ensures c.in_default.is
+    ap Ok (c.locate_block.ensures ∙ ap (λ (t : Track). located (blocks a.sector (met t a.image.now))) c.track_of-track.ensures)
+    ∙ answer_passed _ _ _ c.in_ok-tested.ensures

@@ -3,14 +3,14 @@ use mathlib.Core.Path.{ap, ◌∙◌}
 use Prim.Native.Nat.{◌≤◌}
 use native.Mathlib.Omega.{arith}
 use Rattle.layouts.specs.declared.Layout.{Layout}
-use Rattle.calls.proofs.Refusals.{answer_refused, answer_passed}
+use Rattle.calls.proofs.Refusals.{answer_err, answer_ok}
 use Rattle.rewrite.specs.Stores.{store_count}
 use Rattle.rewrite.proofs.Counted.{size_small, count_most}
 use borrow.Author.Rules.{rules}
 use Rattle.rewrite.proofs.stores_in_all.Goals as goal
 
-pub returns-in_default : goal.returns-in_default
-returns-in_default c = answer_refused _ (λ f. 0) _ _ c.layout_number.ensures _ c.in_default.is
+pub returns-then-is_err : goal.returns-then-is_err
+returns-then-is_err c = answer_err _ 0 _ _ c.layout_number.ensures c.if-is_err.ensures.value
 
 pub count_of-requires : goal.count_of-requires
 count_of-requires c = (search rules, rw c.layout_of-layout.ensures (size_small _))
@@ -26,4 +26,4 @@ pub returns : goal.returns
 returns c =
     c.count_of.ensures
     ∙ ap (λ (l : Layout). store_count l c.args.plan.place c.args.bytes) c.layout_of-layout.ensures
-    ∙ answer_passed _ (λ f. 0) _ _ c.layout_number.ensures c.in-Ok.is
+    ∙ answer_ok _ 0 _ _ c.layout_number.ensures c.if-is_err.ensures.value
