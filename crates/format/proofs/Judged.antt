@@ -13,28 +13,24 @@ use Rattle.verdicts.proofs.Tests.{clash, first_passed}
 use Rattle.layouts.specs.Layouts.{layout_of, fields, numbers}
 use Rattle.calls.specs.Refusals.{told, area_test, mark_test, control_test}
 use Rattle.layouts.specs.Refusals.{track_tests}
-use Rattle.calls.proofs.Refusals.{told_passed, told_refused, then_passed, then_refused, or_left}
+use Rattle.calls.proofs.Refusals.{then_passed, handed_on, answer_refused, or_left}
 use Rattle.layouts.specs.declared.Layout.{Layout}
 use Rattle.calls.specs.declared.Refusal.{Refusal}
 use Rattle.calls.specs.declared.Refusal.TheVariants.{ImageLength, MarkBytes, ControlRecord, Overfull}
-use Rattle.calls.specs.declared.Checked.{Checked}
-use Rattle.calls.specs.declared.Checked.TheVariants.{Passed, Refused}
-use Rattle.format.specs.Refusals.{some, track_image_test, marks_test, controls_test, fields_test, form_tests, content_tests}
+use Rattle.std.specs.Prelude.{⊤, Result, Ok, Err, IsErrAnd, is_err}
+use Rattle.format.specs.Refusals.{some, track_image_test, marks_test, controls_test, fields_test, form_tests, content_tests, format_tests}
+use Rattle.format.specs.Outcomes.{Formats}
 
 -- ---- one test
 
--- What a single test answers tells whether it applies.
-module _ (t : Test Refusal) (x : Checked) (e : x ≡ told (refusal (t ∷ []))) where
-  pub one_refused : (f : Refusal) → x ≡ Refused f → t.applies ≡ true
-  unfolding refusal
-  one_refused f h = go t.applies (told_refused (refusal (t ∷ [])) x f e h)
-    where
-      go : (b : Bool) → cond b (refused t.gives) passed ≡ refused f → b ≡ true
-      go true e = refl
-      go false e = absurd (clash cc)
-
-  pub one_passed : x ≡ Passed → t.applies ≡ false
-  one_passed h = (first_passed t [] (told_passed (refusal (t ∷ [])) x e h)).0
+-- Whether a single test answers an error tells whether it applies.
+pub one_told : (t : Test Refusal) (x : Result ⊤ Refusal) → x ≡ told (refusal (t ∷ [])) → {b : Bool} → b ≡ is_err x → t.applies ≡ b
+unfolding refusal told by
+one_told t x e h = sym (h ∙ ap is_err e ∙ go t.applies)
+  where
+    go : (b : Bool) → is_err (by {A = Result ⊤ Refusal} (cond b (refused t.gives) passed) (Ok _) Err) ≡ b
+    go true = refl
+    go false = refl
 
 -- A test before others applies, or does not.
 module _ {F : Type 0} (t : Test F) (ts : List (Test F)) where
@@ -47,8 +43,8 @@ module _ {F : Type 0} (t : Test F) (ts : List (Test F)) where
   passed_by e = rw e
 
 -- An area that passes has the length that is wanted.
-pub area_right : (wanted given : ℕ) (x : Checked) → x ≡ told (refusal (area_test wanted given ∷ [])) → x ≡ Passed → given ≡ wanted
-area_right wanted given x e h = eqb-true given wanted (not-false _ (one_passed (area_test wanted given) x e h))
+pub area_right : (wanted given : ℕ) → Ok _ ≡ told (refusal (area_test wanted given ∷ [])) → given ≡ wanted
+area_right wanted given e = eqb-true given wanted (not-false _ (one_told (area_test wanted given) (Ok _) e refl))
 
 -- Marks that pass are as many as the sectors.
 pub marks_counted : (sectors : ℕ) (marks : List ℕ) → (marks_test sectors marks).applies ≡ false → length marks ≡ sectors
@@ -105,52 +101,60 @@ control_at cylinder size contents marks i from b f e =
 
 -- ---- the tests one after the other
 
--- The form: x tells what 2, 3 and 4 say, and the image is judged behind them.
-module _ (layout cylinder side image : ℕ) (x : Checked) (e : x ≡ told (refusal (track_tests layout cylinder side))) (p : x ≡ Passed)
+-- The form: 2, 3 and 4 have passed, and the image is judged behind them.
+module _ (layout cylinder side image : ℕ) (e : Ok _ ≡ told (refusal (track_tests layout cylinder side)))
     (l : Layout) (known : l ≡ layout_of layout) where
-  pub form_wrong : (image ≡ l.image_bytes → ⊥) → Refused ImageLength ≡ told (refusal (form_tests layout cylinder side image))
+  pub form_wrong : (image ≡ l.image_bytes → ⊥) → Err ImageLength ≡ told (refusal (form_tests layout cylinder side image))
   unfolding form_tests told by
   form_wrong h =
       sym (ap told (applied (track_image_test (layout_of layout) image) [] (rw (ne_eqb image (layout_of layout).image_bytes (rw known at h)))))
-      ∙ then_passed (track_tests layout cylinder side) (track_image_test (layout_of layout) image ∷ []) x e p
+      ∙ then_passed (track_tests layout cylinder side) (track_image_test (layout_of layout) image ∷ []) e
 
-  pub form_right : image ≡ l.image_bytes → Passed ≡ told (refusal (form_tests layout cylinder side image))
+  pub form_right : image ≡ l.image_bytes → Ok _ ≡ told (refusal (form_tests layout cylinder side image))
   unfolding form_tests refusal told by
   form_right h =
       sym (ap told (passed_by (track_image_test (layout_of layout) image) [] (rw (eq-eqb image (layout_of layout).image_bytes (rw known at h)))))
-      ∙ then_passed (track_tests layout cylinder side) (track_image_test (layout_of layout) image ∷ []) x e p
+      ∙ then_passed (track_tests layout cylinder side) (track_image_test (layout_of layout) image ∷ []) e
 
--- The contents: x tells what 5 says, and the others follow.
-module _ (l : Layout) (cylinder : ℕ) (contents marks : List ℕ) (image : ℕ) (x : Checked)
-    (e : x ≡ told (refusal (area_test l.area_bytes (length contents) ∷ []))) where
-  pub area_wrong : (f : Refusal) → x ≡ Refused f → x ≡ told (refusal (content_tests l cylinder contents marks image))
+-- The contents: 5 tells, and the others follow.
+module _ (l : Layout) (cylinder : ℕ) (contents marks : List ℕ) (image : ℕ) where
+  pub area_wrong : (f : Refusal) (r : Result ⊤ Refusal) → Err f ≡ told (refusal (area_test l.area_bytes (length contents) ∷ []))
+      → IsErrAnd r (λ e. e ≡ f) → r ≡ told (refusal (content_tests l cylinder contents marks image))
   unfolding content_tests
-  area_wrong f h = then_refused (area_test l.area_bytes (length contents) ∷ []) _ x e f h
+  area_wrong f r e h = handed_on (area_test l.area_bytes (length contents) ∷ []) _ f r e h
 
-  module _ (p : x ≡ Passed) where
-    pub marks_wrong : (marks_test l.sectors marks).applies ≡ true → Refused MarkBytes ≡ told (refusal (content_tests l cylinder contents marks image))
+  module _ (e : Ok _ ≡ told (refusal (area_test l.area_bytes (length contents) ∷ []))) where
+    pub marks_wrong : (marks_test l.sectors marks).applies ≡ true → Err MarkBytes ≡ told (refusal (content_tests l cylinder contents marks image))
     unfolding content_tests told by
-    marks_wrong six = sym (ap told (applied (marks_test l.sectors marks) _ six)) ∙ then_passed (area_test l.area_bytes (length contents) ∷ []) _ x e p
+    marks_wrong six = sym (ap told (applied (marks_test l.sectors marks) _ six)) ∙ then_passed (area_test l.area_bytes (length contents) ∷ []) _ e
 
     module _ (six : (marks_test l.sectors marks).applies ≡ false) where
       pub controls_wrong : (controls_test l cylinder contents marks).applies ≡ true
-          → Refused ControlRecord ≡ told (refusal (content_tests l cylinder contents marks image))
+          → Err ControlRecord ≡ told (refusal (content_tests l cylinder contents marks image))
       unfolding content_tests told by
       controls_wrong seven =
           sym (ap told (passed_by (marks_test l.sectors marks) _ six ∙ applied (controls_test l cylinder contents marks) _ seven))
-          ∙ then_passed (area_test l.area_bytes (length contents) ∷ []) _ x e p
+          ∙ then_passed (area_test l.area_bytes (length contents) ∷ []) _ e
 
       module _ (seven : (controls_test l cylinder contents marks).applies ≡ false) where
         from_fields : told (refusal (fields_test l image ∷ [])) ≡ told (refusal (content_tests l cylinder contents marks image))
         unfolding content_tests
         from_fields =
             sym (ap told (passed_by (marks_test l.sectors marks) _ six ∙ passed_by (controls_test l cylinder contents marks) _ seven))
-            ∙ then_passed (area_test l.area_bytes (length contents) ∷ []) _ x e p
+            ∙ then_passed (area_test l.area_bytes (length contents) ∷ []) _ e
 
-        pub fields_over : image < 2 * fields l → Refused Overfull ≡ told (refusal (content_tests l cylinder contents marks image))
+        pub fields_over : image < 2 * fields l → Err Overfull ≡ told (refusal (content_tests l cylinder contents marks image))
         unfolding told by
         fields_over h = sym (ap told (applied (fields_test l image) [] (lt-ltb image (2 * fields l) h))) ∙ from_fields
 
-        pub fields_within : 2 * fields l ≤ image → Passed ≡ told (refusal (content_tests l cylinder contents marks image))
+        pub fields_within : 2 * fields l ≤ image → Ok _ ≡ told (refusal (content_tests l cylinder contents marks image))
         unfolding refusal told by
         fields_within h = sym (ap told (passed_by (fields_test l image) [] (le-ltb image (2 * fields l) h))) ∙ from_fields
+
+-- A format that is refused, where `?` hands the refusal on.
+pub refused_format : (layout cylinder side : ℕ) (contents marks image : List ℕ) (f : Refusal) (r : Result ⊤ Refusal)
+    → Err f ≡ told (refusal (format_tests layout cylinder side contents marks (length image))) → IsErrAnd r (λ e. e ≡ f)
+    → Formats layout cylinder side contents marks image r image
+refused_format layout cylinder side contents marks image f (Ok _) e h = absurd h
+refused_format layout cylinder side contents marks image f (Err g) e h =
+    record { answers = ap Err h ∙ e; leaves = answer_refused _ (λ g. image) _ f e }

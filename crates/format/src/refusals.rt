@@ -16,12 +16,10 @@ fn has_wrong_mark(sectors: usize, marks: &[u8]) -> bool
     if marks.len() != sectors {
         return true;
     }
-    let mut i = 0;
-    while i < marks.len() {
-        if calls::mark_byte(marks[i] as u32).is_err() {
+    for &mark in marks {
+        if calls::mark_byte(mark as u32).is_err() {
             return true;
         }
-        i += 1;
     }
     false
 }
@@ -31,14 +29,12 @@ fn has_wrong_control(layout: Layout, cylinder: u32, contents: &[u8], marks: &[u8
     requires { (length contents.now ≡ layout.sectors * layout.size) × (length marks.now ≡ layout.sectors) × (1 ≤ layout.size) }
     ensures { result ≡ (controls_test layout cylinder contents.now marks.now).applies }
 {
-    let mut i = 0;
     let mut from = 0;
-    while i < layout.sectors {
-        if calls::control_record(cylinder, marks[i] as u32, contents[from]).is_err() {
+    for &mark in marks {
+        if calls::control_record(cylinder, mark as u32, contents[from]).is_err() {
             return true;
         }
         from += layout.size;
-        i += 1;
     }
     false
 }

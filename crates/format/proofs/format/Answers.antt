@@ -5,9 +5,10 @@ use lib.ListN.{length}
 use Rattle.verdicts.specs.Tests.{by}
 use Rattle.layouts.specs.Layouts.{layout_of, Every}
 use Rattle.layouts.specs.declared.Track.{Track}
-use Rattle.calls.proofs.Refusals.{told_passed, answer_refused}
+use Rattle.calls.proofs.Refusals.{told_passed}
 use Rattle.format.specs.Order.{Numbered}
 use Rattle.format.proofs.Parts.{length_numbers, numbered, natural}
+use Rattle.format.proofs.Judged.{refused_format}
 use Rattle.format.proofs.Accepted.{usable, accepted, in_natural_order}
 use Rattle.format.proofs.format.Goals as goal
 
@@ -18,7 +19,7 @@ slice_bounds-write_track-end c =
 pub write_track-requires : goal.write_track-requires
 write_track-requires c =
     let l = layout_of c.args.layout in
-    let a = accepted _ _ _ _ _ _ (told_passed _ _ c.tested-tested.ensures c.in-Passed.is) in
+    let a = accepted _ _ _ _ _ _ (told_passed _ c.in_ok-tested.ensures) in
     let u = usable c.args.layout in
     let n = natural l.sectors u.most in
     let low = a.cylinders in
@@ -31,17 +32,17 @@ write_track-requires c =
     }
     )
 
-pub returns-in-Passed : goal.returns-in-Passed
+pub returns-in_err-tested : goal.returns-in_err-tested
+returns-in_err-tested c =
+    let image = c.args.image.now in
+    refused_format _ _ _ _ _ image _ _ c.in_err-tested.ensures c.from_residual.ensures.1
+
+pub returns : goal.returns
 unfolding by
-returns-in-Passed c =
+returns c =
     let a = c.args in
-    let passes = told_passed _ _ c.tested-tested.ensures c.in-Passed.is in
+    let passes = told_passed _ c.in_ok-tested.ensures in
     record {
-      answers = c.tested-tested.ensures;
+      answers = c.in_ok-tested.ensures;
       leaves = rw passes (in_natural_order a.layout a.cylinder a.side _ _ _ _ c.track_of-track.ensures c.write_track.ensures);
     }
-
-pub returns-in_default : goal.returns-in_default
-returns-in_default c =
-    let image = c.args.image.now in
-    record { answers = c.tested-tested.ensures; leaves = answer_refused _ (λ f. image) _ _ c.tested-tested.ensures _ c.in_default.is }

@@ -1,47 +1,52 @@
--- `has_wrong_control` meets its contract: the sectors from i + 1 on tell what all tell.
-use Prim.Native.Nat.{ℕ, ◌+◌}
-use mathlib.Core.Bool.{true, false}
+-- `has_wrong_control` meets its contract: the sectors that are left tell what all tell.
+use Prim.Native.Nat.{ℕ, ◌+◌, ◌<◌, ◌≤◌}
 use mathlib.Core.Path.{sym, ap, ◌∙◌}
 use native.Mathlib.Nat.{zero-add, sub-zero}
 use native.Mathlib.Omega.{arith}
-use Rattle.format.proofs.Judged.{one_refused, one_passed, number_hit, number_miss, number_end, control_at}
+use lib.ListN.{length}
+use Rattle.format.proofs.Judged.{one_told, number_hit, number_miss, number_end, control_at}
 use Rattle.format.proofs.Turns.{left_step, next}
 use borrow.Author.Rules.{rules}
 use Rattle.format.proofs.refusals.has_wrong_control.Goals as goal
 
-pub loop-i-init : goal.loop-i-init
-loop-i-init c = (search rules, omega arith, rw (zero-add, sub-zero) (sym c.requires.0), rw sub-zero)
-
-pub overflow_cast-marks : goal.overflow_cast-marks
-overflow_cast-marks c = omega (arith, (c.type_inv.marks c.loop-i.i).fits)
+pub loop-mark-init : goal.loop-mark-init
+loop-mark-init c = (search rules, omega arith, rw (zero-add, sub-zero) (sym c.requires.0), rw sub-zero)
 
 pub bounds-contents-from : goal.bounds-contents-from
 bounds-contents-from c =
-    omega (arith, left_step c.args.layout.sectors c.loop-i.i c.args.layout.size c.loop-i-test.true, c.loop-i.invariant, c.requires)
+    let l = c.loop-mark in
+    let within : l.mark-index < c.args.layout.sectors = omega (arith, c.loop-mark-test.true, c.requires) in
+    omega (arith, left_step c.args.layout.sectors l.mark-index c.args.layout.size within, l.invariant, c.requires)
 
-pub returns-in_default : goal.returns-in_default
-returns-in_default c =
-    let l = c.loop-i in
+pub returns-then-is_err : goal.returns-then-is_err
+returns-then-is_err c =
+    let l = c.loop-mark in
     let a = c.args in
-    sym (l.invariant.3 ∙ number_hit _ _ l.i c.loop-i-test.true
-    (control_at a.cylinder a.layout.size a.contents.now a.marks.now l.i l.from true l.invariant.1 (one_refused _ _ c.control_record.ensures _ c.in_default.is)))
+    let within : l.mark-index < a.layout.sectors = omega (arith, c.loop-mark-test.true, c.requires) in
+    sym (l.invariant.3 ∙ number_hit _ _ l.mark-index within
+    (control_at a.cylinder a.layout.size a.contents.now a.marks.now l.mark-index l.from _ l.invariant.1 (one_told _ _ c.control_record.ensures c.if-is_err.ensures.value)))
 
 pub overflow_add-from : goal.overflow_add-from
 overflow_add-from c =
-    omega (arith, left_step c.args.layout.sectors c.loop-i.i c.args.layout.size c.loop-i-test.true, c.loop-i.invariant, c.requires, c.well_formed)
+    let l = c.loop-mark in
+    let within : l.mark-index < c.args.layout.sectors = omega (arith, c.loop-mark-test.true, c.requires) in
+    omega (arith, left_step c.args.layout.sectors l.mark-index c.args.layout.size within, l.invariant, c.requires, c.well_formed)
 
-pub loop-i-preserved : goal.loop-i-preserved
-loop-i-preserved c =
-    let l = c.loop-i in
-    let a = c.args in (
-      search rules,
-      ap (λ (x : ℕ). x + a.layout.size) l.invariant.1 ∙ next l.i a.layout.size,
-      omega (arith, left_step a.layout.sectors l.i a.layout.size c.loop-i-test.true, l.invariant),
+pub loop-mark-preserved : goal.loop-mark-preserved
+loop-mark-preserved c =
+    let l = c.loop-mark in
+    let a = c.args in
+    let within : l.mark-index < a.layout.sectors = omega (arith, c.loop-mark-test.true, c.requires) in (
+      omega (arith, within),
+      ap (λ (x : ℕ). x + a.layout.size) l.invariant.1 ∙ next l.mark-index a.layout.size,
+      omega (arith, left_step a.layout.sectors l.mark-index a.layout.size within, l.invariant),
       l.invariant.3
-          ∙ number_miss _ _ l.i c.loop-i-test.true
-          (control_at a.cylinder a.layout.size a.contents.now a.marks.now l.i l.from false l.invariant.1
-          (one_passed _ _ c.control_record.ensures c.in-Passed.is)),
+          ∙ number_miss _ _ l.mark-index within
+          (control_at a.cylinder a.layout.size a.contents.now a.marks.now l.mark-index l.from _ l.invariant.1
+          (one_told _ _ c.control_record.ensures c.if-is_err.ensures.value)),
     )
 
 pub returns : goal.returns
-returns c = sym (c.loop-i.invariant.3 ∙ number_end _ _ _ c.loop-i-test.false)
+returns c =
+    let all : c.args.layout.sectors ≤ c.loop-mark.mark-index = omega (arith, c.loop-mark-test.false, c.requires) in
+    sym (c.loop-mark.invariant.3 ∙ number_end _ _ _ all)

@@ -1,13 +1,13 @@
 -- `tested` meets its contract: the contents are tested after the form.
 use mathlib.Core.Path.{sym, subst, ◌∙◌}
-use Rattle.calls.proofs.Refusals.{then_refused, then_passed}
+use Rattle.calls.proofs.Refusals.{handed_on, then_passed}
 use Rattle.format.specs.Refusals.{format_tests}
 use Rattle.format.proofs.Accepted.{Usable, usable}
 use Rattle.format.proofs.refusals.tested.Goals as goal
 
-pub returns-in_default : goal.returns-in_default
+pub returns-in_err-form_tests : goal.returns-in_err-form_tests
 unfolding format_tests
-returns-in_default c = then_refused _ _ _ c.form_tests-form.ensures _ c.in_default.is
+returns-in_err-form_tests c = handed_on _ _ _ _ c.in_err-form_tests.ensures c.from_residual.ensures.1
 
 pub content_tests-requires : goal.content_tests-requires
 content_tests-requires c =
@@ -17,4 +17,4 @@ content_tests-requires c =
 pub returns : goal.returns
 unfolding format_tests
 returns c =
-    c.content_tests.ensures ∙ rw c.layout_of.ensures (then_passed _ _ _ c.form_tests-form.ensures c.in-Passed.is)
+    c.content_tests.ensures ∙ rw c.layout_of.ensures (then_passed _ _ c.in_ok-form_tests.ensures)
