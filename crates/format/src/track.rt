@@ -76,12 +76,10 @@ pub(crate) fn write_track(
     let layout = track.layout;
     let stretch = 2 * sector_fields(layout);
     let mut start = write_leader(layout, image);
-    let mut i = 0;
-    while i < order.len() {
+    for &number in order {
         let end = start + stretch;
-        write_sector(track, order[i], contents, marks, &mut image[start..end]);
+        write_sector(track, number, contents, marks, &mut image[start..end]);
         start = end;
-        i += 1;
     }
     let mode = layout.mode;
     let gap = layouts::gap_byte(mode);

@@ -37,10 +37,8 @@ pub(crate) fn write_run(
     }
     write_pair(area, at, coding::coded(mode, before, byte));
     let pair = coding::coded(mode, byte % 2, byte);
-    let mut i = 1;
-    while i < count {
+    for i in 1..count {
         write_pair(area, at + 2 * i, pair);
-        i += 1;
     }
     at + 2 * count
 }
@@ -91,17 +89,16 @@ fn write_checked(mode: Mode, mark: Mark, contents: &[u8], area: &mut [u8], at: u
 {
     let register = edc::bytes_entered(marks::register_after(mode, mark), contents);
     let mut last = marks::last_bit(mark);
-    let mut i = 0;
-    while i < contents.len() {
-        let byte = contents[i];
-        write_pair(area, at + 2 * i, coding::coded(mode, last % 2, byte));
+    let mut next = at;
+    for &byte in contents {
+        write_pair(area, next, coding::coded(mode, last % 2, byte));
         last = byte;
-        i += 1;
+        next += 2;
     }
     let upper = (register / 256) as u8;
     let lower = (register % 256) as u8;
-    write_pair(area, at + 2 * i, coding::coded(mode, last % 2, upper));
-    write_pair(area, at + 2 * i + 2, coding::coded(mode, upper % 2, lower));
+    write_pair(area, next, coding::coded(mode, last % 2, upper));
+    write_pair(area, next + 2, coding::coded(mode, upper % 2, lower));
     lower % 2
 }
 

@@ -6,11 +6,8 @@ use lib.Seq.{sets}
 use Rattle.format.proofs.Parts.{stretches}
 use Rattle.format.proofs.track.write_track.Given as goal
 
-abbrev pub invariant-loop-i : goal.invariant-loop-i
-invariant-loop-i l =
-    (l.i ≤ length l.order) × (length l.image ≡ length l.initial.image)
-    × (l.start + ((length l.order - l.i) * l.stretch + 2 * l.track.layout.track_gap) ≡ length l.initial.image)
-    × (sets l.initial.image l.initial.start (stretches l.track l.contents l.marks l.order) ≡ sets l.image l.start (stretches l.track l.contents l.marks (drop l.i l.order)))
-
-abbrev pub decreases-loop-i : goal.decreases-loop-i
-decreases-loop-i l = length l.order - l.i
+abbrev pub invariant-loop-number : goal.invariant-loop-number
+invariant-loop-number l =
+    (length l.image ≡ length l.initial.image)
+    × (l.start + ((length l.order - l.number-index) * l.stretch + 2 * l.track.layout.track_gap) ≡ length l.initial.image)
+    × (sets l.initial.image l.initial.start (stretches l.track l.contents l.marks l.order) ≡ sets l.image l.start (stretches l.track l.contents l.marks (drop l.number-index l.order)))

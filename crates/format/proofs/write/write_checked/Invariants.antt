@@ -8,11 +8,8 @@ use Rattle.edc.specs.Register.{edc_bytes}
 use Rattle.format.specs.Order.{image, bytes}
 use Rattle.format.proofs.write.write_checked.Given as goal
 
-abbrev pub invariant-loop-i : goal.invariant-loop-i
-invariant-loop-i l =
-    (l.i ≤ length l.contents) × (length l.area ≡ length l.initial.area)
+abbrev pub invariant-loop-byte : goal.invariant-loop-byte
+invariant-loop-byte l =
+    (l.next ≡ l.at + 2 * l.byte-index) × (length l.area ≡ length l.initial.area)
     × (sets l.initial.area l.at (image l.mode (l.initial.last % 2) (bytes (l.contents ++ edc_bytes l.register) []))
-    ≡ sets l.area (l.at + 2 * l.i) (image l.mode (l.last % 2) (bytes (drop l.i l.contents ++ edc_bytes l.register) [])))
-
-abbrev pub decreases-loop-i : goal.decreases-loop-i
-decreases-loop-i l = length l.contents - l.i
+    ≡ sets l.area (l.at + 2 * l.byte-index) (image l.mode (l.last % 2) (bytes (drop l.byte-index l.contents ++ edc_bytes l.register) [])))
