@@ -125,6 +125,12 @@ module _ {A : Type 0} (this other : A) (v : Verdict Refusal) (r : Result ⊤ Ref
       go passed h = refl
       go (refused f) h = absurd (clash cc)
 
+-- The way back, of an answer that holds a value.
+pub passed_with : {T : Type 0} (v : Verdict Refusal) (x y : T) → Ok x ≡ by v (Ok y) Err → (v ≡ passed) × (x ≡ y)
+unfolding by
+passed_with passed x y e = (refl, cc)
+passed_with (refused f) x y e = absurd (clash cc)
+
 -- The same of a refusal that `?` hands on.
 pub answer_handed : {T : Type 0} (this : Result T Refusal) (v : Verdict Refusal) (f : Refusal) (r : Result T Refusal)
     → Err f ≡ told v → IsErrAnd r (λ e. e ≡ f) → r ≡ by v this Err

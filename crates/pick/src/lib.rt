@@ -4,7 +4,7 @@
 ghost use Rattle.pick.specs.Picks.{IsChosen, IsPicked, IsStretch};
 
 use answers::{Record, Records};
-use calls::{Checked, Refusal};
+use calls::Refusal;
 
 mod passes;
 mod refusals;
@@ -18,8 +18,6 @@ pub enum Choice {
     Second(Record),
     // neither pass answered; the first pass's record
     Neither(Record),
-    // the call is refused
-    Refused(Refusal),
 }
 
 // Which of two passes over a track answered for a sector, the first before the second, by the record that each has of it. Of the areas that go
@@ -31,13 +29,11 @@ pub fn choose(
     second_length: usize,
     one: Record,
     two: Record,
-) -> Choice
+) -> Result<Choice, Refusal>
     ensures { IsChosen layout sector first_length second_length one two result }
 {
-    match refusals::pick_tested(layout, sector, first_length, second_length) {
-        Checked::Refused(refusal) => Choice::Refused(refusal),
-        Checked::Passed => passes::chosen_pass(one, two),
-    }
+    refusals::pick_tested(layout, sector, first_length, second_length)?;
+    Ok(passes::chosen_pass(one, two))
 }
 
 // The same, by all the records. Each pass is an area that `read` has filled, with its records.
@@ -48,16 +44,14 @@ pub fn picked(
     first_records: Records,
     second: &[u8],
     second_records: Records,
-) -> Choice
+) -> Result<Choice, Refusal>
     ensures { IsPicked layout sector first.now first_records second.now second_records result }
 {
-    match refusals::pick_tested(layout, sector, first.len(), second.len()) {
-        Checked::Refused(refusal) => Choice::Refused(refusal),
-        Checked::Passed => passes::chosen_pass(
-            passes::record_at(first_records, sector),
-            passes::record_at(second_records, sector),
-        ),
-    }
+    refusals::pick_tested(layout, sector, first.len(), second.len())?;
+    Ok(passes::chosen_pass(
+        passes::record_at(first_records, sector),
+        passes::record_at(second_records, sector),
+    ))
 }
 
 // The bytes of the sector that `picked` takes: that pass's slot, or an empty part.
@@ -71,13 +65,8 @@ pub fn pick<'a>(
 ) -> &'a [u8]
     ensures { IsStretch layout sector first.now first_records second.now second_records result.now }
 {
-    let tested = refusals::pick_tested(layout, sector, first.len(), second.len());
-    let Checked::Passed = tested else {
-        return &first[0..0];
-    };
-    let picked = passes::chosen_pass(
-        passes::record_at(first_records, sector),
-        passes::record_at(second_records, sector),
-    );
-    passes::stretch(layouts::layout_of(layout), sector, first, second, picked)
+    match picked(layout, sector, first, first_records, second, second_records) {
+        Ok(choice) => passes::stretch(layouts::layout_of(layout), sector, first, second, choice),
+        Err(_) => &first[0..0],
+    }
 }

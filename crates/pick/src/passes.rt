@@ -63,6 +63,5 @@ pub(crate) fn stretch<'a>(
         Choice::First(_) => slot_at(layout, sector, first),
         Choice::Second(_) => slot_at(layout, sector, second),
         Choice::Neither(_) => &first[0..0],
-        Choice::Refused(_) => &first[0..0],
     }
 }

@@ -5,7 +5,7 @@ ghost use Rattle.std.specs.Prelude.{length};
 ghost use Rattle.read.specs.Outcomes.{Reads};
 
 use answers::Records;
-use calls::Checked;
+use calls::Refusal;
 
 mod blocks;
 mod refusals;
@@ -14,9 +14,7 @@ mod tracks;
 // What a read hands back.
 #[derive(Clone, Copy)]
 pub struct Reading {
-    // whether the call was refused; then no record holds data, and the counts are 0
-    pub verdict: Checked,
-    // the sectors of the track; 0 where the call was refused
+    // the sectors of the track
     pub sectors: usize,
     pub records: Records,
     // the identifiers whose EDC is wrong
@@ -27,21 +25,12 @@ pub struct Reading {
 
 // Reads a track: `area` has a slot for each sector number, sectors × N bytes in all. A refused sector's slot is all zero, and so is the whole
 // area of a refused call, of any length.
-pub fn read(layout: u32, cylinder: u32, side: u32, image: &[u8], area: &mut [u8]) -> Reading
+pub fn read(layout: u32, cylinder: u32, side: u32, image: &[u8], area: &mut [u8]) -> Result<Reading, Refusal>
     ensures { Reads layout cylinder side image.now (length area.old) result area.new }
 {
     let tested = refusals::read_tested(layout, cylinder, side, image.len(), area.len());
     cells::clear(area);
-    match tested {
-        Checked::Refused(refusal) => Reading {
-            verdict: Checked::Refused(refusal),
-            sectors: 0,
-            records: answers::unread_records(),
-            bad: 0,
-            foreign: 0,
-        },
-        Checked::Passed => {
-            tracks::read_track(layouts::track_of(layout, cylinder, side), image, area)
-        }
-    }
+    tested?;
+    let track = layouts::track_of(layout, cylinder, side);
+    Ok(tracks::read_track(track, image, area))
 }

@@ -10,7 +10,6 @@ ghost use Rattle.read.specs.Outcomes.{reading};
 use super::Reading;
 use super::blocks::next_record;
 use answers::{Answer, Answered, Record, Records};
-use calls::Checked;
 use layouts::Track;
 use walk::{Block, Event, Round};
 
@@ -76,7 +75,6 @@ pub(crate) fn read_track(track: Track, image: &[u8], area: &mut [u8]) -> Reading
     }
     let layout = track.layout;
     Reading {
-        verdict: Checked::Passed,
         sectors: layout.sectors,
         records: Records {
             answers,

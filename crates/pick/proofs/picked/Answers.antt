@@ -1,27 +1,26 @@
 -- `picked` meets its contract: the tests decide, and then the records.
-use mathlib.Core.Path.{ap₂, ◌∙◌}
-use Rattle.calls.proofs.Refusals.{told_passed, answer_refused, answer_passed}
+use mathlib.Core.Path.{ap, ap₂, ◌∙◌}
+use Rattle.std.specs.Prelude.{Ok}
+use Rattle.calls.proofs.Refusals.{told_passed, answer_handed, answer_passed}
 use Rattle.pick.specs.Picks.{chosen_of, choice}
 use Rattle.pick.proofs.Picking.{pickable}
 use Rattle.pick.proofs.picked.Goals as goal
 
 pub record_at-requires : goal.record_at-requires
 record_at-requires c =
-    let k = pickable _ _ _ _ (told_passed _ _ c.pick_tested.ensures c.in-Passed.is) in
+    let k = pickable _ _ _ _ (told_passed _ c.in_ok-pick_tested.ensures) in
     (k.low, k.few)
 
-pub record_at-requires-in-Passed : goal.record_at-requires-in-Passed
-record_at-requires-in-Passed c =
-    let k = pickable _ _ _ _ (told_passed _ _ c.pick_tested.ensures c.in-Passed.is) in
+pub record_at-requires-2 : goal.record_at-requires-2
+record_at-requires-2 c =
+    let k = pickable _ _ _ _ (told_passed _ c.in_ok-pick_tested.ensures) in
     (k.low, k.few)
 
-pub returns-in-Refused : goal.returns-in-Refused
+pub returns-in_err-pick_tested : goal.returns-in_err-pick_tested
 unfolding chosen_of
-returns-in-Refused c = answer_refused _ _ _ _ c.pick_tested.ensures _ c.in-Refused.is
+returns-in_err-pick_tested c = answer_handed _ _ _ _ c.in_err-pick_tested.ensures c.from_residual.ensures.1
 
-pub returns-in-Passed : goal.returns-in-Passed
+pub returns : goal.returns
 unfolding chosen_of
-returns-in-Passed c =
-    c.chosen_pass.ensures
-    ∙ ap₂ choice c.record_at.ensures c.record_at-in-Passed.ensures
-    ∙ answer_passed _ _ _ _ c.pick_tested.ensures c.in-Passed.is
+returns c =
+    ap Ok (c.chosen_pass.ensures ∙ ap₂ choice c.record_at.ensures c.record_at-2.ensures) ∙ answer_passed _ _ _ c.in_ok-pick_tested.ensures

@@ -18,8 +18,3 @@ pub returns-in-Neither : goal.returns-in-Neither
 returns-in-Neither c =
     let a = c.args in
     ap (λ (p : Choice). stretch_in a.layout a.sector a.first.now a.second.now p) (sym c.in-Neither.is)
-
-pub returns-in-Refused : goal.returns-in-Refused
-returns-in-Refused c =
-    let a = c.args in
-    ap (λ (p : Choice). stretch_in a.layout a.sector a.first.now a.second.now p) (sym c.in-Refused.is)

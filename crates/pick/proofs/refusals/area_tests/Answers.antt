@@ -1,21 +1,18 @@
 -- `area_tests` meets its contract: each test follows those that passed.
 use mathlib.Core.Path.{◌∙◌}
-use Rattle.calls.proofs.Refusals.{then_refused, then_passed}
+use Rattle.calls.proofs.Refusals.{handed_on, then_passed}
 use Rattle.pick.specs.Picks.{area_tests}
 use Rattle.pick.proofs.refusals.area_tests.Goals as goal
 
-pub returns-in_default : goal.returns-in_default
+pub returns-in_err-sector_number : goal.returns-in_err-sector_number
 unfolding area_tests
-returns-in_default c = then_refused _ _ _ c.sector_number-number.ensures _ c.in_default.is
+returns-in_err-sector_number c = handed_on _ _ _ _ c.in_err-sector_number.ensures c.from_residual.ensures.1
 
-pub returns-in_default-area : goal.returns-in_default-area
+pub returns-in_err-area_length : goal.returns-in_err-area_length
 unfolding area_tests
-returns-in_default-area c =
-    let area = then_refused _ _ _ c.area_length-area.ensures _ c.in_default-area.is in
-    area ∙ then_passed _ _ _ c.sector_number-number.ensures c.in-Passed.is
+returns-in_err-area_length c =
+    handed_on _ _ _ _ c.in_err-area_length.ensures c.from_residual-in_err-area_length.ensures.1 ∙ then_passed _ _ c.in_ok-sector_number.ensures
 
 pub returns : goal.returns
 unfolding area_tests
-returns c =
-    let area = then_passed _ _ _ c.area_length-area.ensures c.in-Passed-area.is in
-    c.area_length.ensures ∙ area ∙ then_passed _ _ _ c.sector_number-number.ensures c.in-Passed.is
+returns c = c.area_length-2.ensures ∙ then_passed _ _ c.in_ok-area_length.ensures ∙ then_passed _ _ c.in_ok-sector_number.ensures

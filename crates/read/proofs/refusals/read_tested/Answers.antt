@@ -3,18 +3,18 @@ use mathlib.Core.Path.{ap, ◌∙◌}
 use mathlib.Core.List.{[], ◌∷◌}
 use Rattle.calls.specs.Refusals.{told, area_test}
 use Rattle.layouts.specs.declared.Layout.{Layout}
-use Rattle.calls.proofs.Refusals.{then_refused, then_passed}
+use Rattle.calls.proofs.Refusals.{handed_on, then_passed}
 use Rattle.verdicts.specs.Tests.{refusal}
 use Rattle.read.specs.Outcomes.{read_tests}
 use Rattle.read.proofs.refusals.read_tested.Goals as goal
 
-pub returns-in_default : goal.returns-in_default
+pub returns-in_err-track_and_image : goal.returns-in_err-track_and_image
 unfolding read_tests
-returns-in_default c = then_refused _ _ _ c.track_and_image-first.ensures _ c.in_default.is
+returns-in_err-track_and_image c = handed_on _ _ _ _ c.in_err-track_and_image.ensures c.from_residual.ensures.1
 
 pub returns : goal.returns
 unfolding read_tests
 returns c =
     c.area_length.ensures
     ∙ ap (λ (l : Layout). told (refusal (area_test l.area_bytes c.args.area ∷ []))) c.layout_of-taken.ensures
-    ∙ then_passed _ _ _ c.track_and_image-first.ensures c.in-Passed.is
+    ∙ then_passed _ _ c.in_ok-track_and_image.ensures
