@@ -13,7 +13,7 @@ use Rattle.verdicts.proofs.Tests.{clash, append_passed, append_refused, by_map}
 use Rattle.calls.specs.declared.Refusal.{Refusal}
 use Rattle.calls.specs.declared.Refusal.TheVariants.{ImageLength, CylinderNumber, SideNumber, LayoutNumber, AreaLength, MarkBytes, ControlRecord}
 use Rattle.calls.specs.declared.Refusal.TheVariants.{Overfull, SectorNumber, Unreadable, OffBoundary, Finished, NoBlock}
-use Rattle.std.specs.Prelude.{⊤, Result, Ok, Err, IsErrAnd, is_err}
+use Rattle.std.specs.Prelude.{⊤, Result, Ok, Err, IsErrAnd, is_ok, is_err}
 use Rattle.calls.specs.Refusals.{refusal_number, checked_number, told, sector_test}
 
 -- The refusal of a number.
@@ -124,6 +124,12 @@ module _ {A : Type 0} (this other : A) (v : Verdict Refusal) (r : Result ⊤ Ref
       go : (w : Verdict Refusal) → false ≡ is_err (told w) → this ≡ by w this (λ f. other)
       go passed h = refl
       go (refused f) h = absurd (clash cc)
+
+-- Whether an answer r is none.
+pub is_ok_told : (v : Verdict Refusal) (r : Result ⊤ Refusal) → r ≡ told v → is_ok r ≡ by v true (λ f. false)
+unfolding told by
+is_ok_told passed r e = ap is_ok e
+is_ok_told (refused f) r e = ap is_ok e
 
 -- The way back, of an answer that holds a value.
 pub passed_with : {T : Type 0} (v : Verdict Refusal) (x y : T) → Ok x ≡ by v (Ok y) Err → (v ≡ passed) × (x ≡ y)

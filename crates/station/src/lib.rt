@@ -82,12 +82,10 @@ pub fn station_read(
 ) -> u8
     ensures { GivesRead layout cylinder side image.now (length area.old) result area.new records.new counts.new }
 {
-    let reading = read::read(layout, cylinder, side, image, area);
-    *records = [0; 78];
-    records::list_sectors(reading.sectors, reading.records, records);
-    *counts = [reading.bad, reading.foreign];
-    let verdict = reading.verdict;
-    calls::checked_number(verdict)
+    let answer = read::read(layout, cylinder, side, image, area);
+    records::list_answered(&answer, records);
+    *counts = records::answered_counts(&answer);
+    calls::checked_number(answer)
 }
 
 // Picks a sector from two passes over one track: the number of its answer, or of the refusal. Each pass is the area and the records that
@@ -131,7 +129,7 @@ pub fn station_request(
 {
     let answer = request::request(layout, cylinder, side, sector, mark, contents, image);
     *plan = rewriting::noted(answer, image.len());
-    rewriting::request_number(answer)
+    calls::checked_number(answer)
 }
 
 // Makes the store that is next by the plan: 0, and `plan` is moved on; or the number of the refusal, and plan and image are as they were. The

@@ -1,11 +1,14 @@
 // Records in numbers: what `station_read` hands out for each sector, and what `station_pick` takes back.
-ghost use Rattle.std.specs.Prelude.{◌≡◌, ◌-◌, ◌*◌, ◌≤◌, length, replicate};
+ghost use Rattle.std.specs.Prelude.{◌≡◌, ◌-◌, ◌*◌, ◌≤◌, length, replicate, IfOk};
 ghost use Rattle.layouts.specs.Layouts.{most_sectors};
 ghost use Rattle.answers.specs.Answers.{answer_number};
+ghost use Rattle.station.specs.Outcomes.{answered_records, answered_counts};
 ghost use Rattle.station.specs.Records.{record_width, record_numbers, record_list, numbered_at};
 
 use answers::{Record, Records};
+use calls::Refusal;
 use layouts::MOST_SECTORS;
+use read::Reading;
 
 // How many numbers a record is handed out in.
 pub(crate) const WIDTH: usize = 3;
@@ -45,6 +48,28 @@ pub(crate) fn list_sectors(count: usize, records: Records, list: &mut [u32])
         list[i * WIDTH + 1] = numbers[1];
         list[i * WIDTH + 2] = numbers[2];
         i += 1;
+    }
+}
+
+// Lists what a read answers of the sectors; zeros past the layout's count, and all of them where the call is refused.
+pub(crate) fn list_answered(answer: &Result<Reading, Refusal>, list: &mut [u32; 78])
+    requires { IfOk answer.now (λ reading. reading.sectors ≤ most_sectors) }
+    ensures { list.new ≡ answered_records answer.now }
+{
+    *list = [0; 78];
+    let Ok(reading) = answer else {
+        return;
+    };
+    list_sectors(reading.sectors, reading.records, list);
+}
+
+// The bad and the foreign identifiers that a read counts; zeros where the call is refused.
+pub(crate) fn answered_counts(answer: &Result<Reading, Refusal>) -> [u32; 2]
+    ensures { result ≡ answered_counts answer.now }
+{
+    match answer {
+        Ok(reading) => [reading.bad, reading.foreign],
+        Err(_) => [0; 2],
     }
 }
 

@@ -1,12 +1,11 @@
 // A plan as four numbers, for the exported functions of the rewrite: the layout, the cell at which the block's mark begins, the stores made, and
 // the stores in all. The fourth is for the caller; a step takes the first three as they are, and works out the fourth anew.
 ghost use Rattle.std.specs.Prelude.{◌≡◌};
-ghost use Rattle.request.specs.Outcomes.{requested_number};
-ghost use Rattle.rewrite.specs.Outcomes.{stepped_number};
+ghost use Rattle.calls.specs.Refusals.{checked_number};
 ghost use Rattle.station.specs.Outcomes.{plan_numbers, numbered_plan, noted, moved};
 
-use request::Requested;
-use rewrite::{Plan, Stepped};
+use calls::Refusal;
+use rewrite::Plan;
 
 // A plan's numbers, where the image has `bytes` bytes.
 fn plan_numbers(plan: Plan, bytes: usize) -> [u32; 4]
@@ -28,35 +27,25 @@ pub(crate) fn numbered_plan(numbers: [u32; 4]) -> Plan
 }
 
 // What a request's answer leaves in the plan: its numbers, or zeros.
-pub(crate) fn noted(answer: Requested, bytes: usize) -> [u32; 4]
+pub(crate) fn noted(answer: Result<Plan, Refusal>, bytes: usize) -> [u32; 4]
     ensures { result ≡ noted answer bytes }
 {
     match answer {
-        Requested::Planned(plan) => plan_numbers(plan, bytes),
-        Requested::Refused(_) => [0; 4],
-    }
-}
-
-// The number of a request's answer.
-pub(crate) fn request_number(answer: Requested) -> u8
-    ensures { result ≡ requested_number answer }
-{
-    match answer {
-        Requested::Planned(_) => 0,
-        Requested::Refused(refusal) => calls::refusal_number(refusal),
+        Ok(plan) => plan_numbers(plan, bytes),
+        Err(_) => [0; 4],
     }
 }
 
 // The number of a step's answer. The plan's numbers are moved on, or stay as they were: they are stored only then, since a number that is held
 // through a step costs it a register.
-pub(crate) fn move_on(answer: Stepped, bytes: usize, plan: &mut [u32; 4]) -> u8
-    ensures { (result ≡ stepped_number answer) × (plan.new ≡ moved answer plan.old bytes) }
+pub(crate) fn move_on(answer: Result<Plan, Refusal>, bytes: usize, plan: &mut [u32; 4]) -> u8
+    ensures { (result ≡ checked_number answer) × (plan.new ≡ moved answer plan.old bytes) }
 {
     match answer {
-        Stepped::Made(next) => {
+        Ok(next) => {
             *plan = plan_numbers(next, bytes);
             0
         }
-        Stepped::Refused(refusal) => calls::refusal_number(refusal),
+        Err(refusal) => u8::from(refusal),
     }
 }

@@ -1,24 +1,19 @@
 -- `station_read` meets its contract: what `read` answers, in numbers.
-use mathlib.Core.Path.{refl, ap, ◌∙◌}
-use mathlib.Core.List.{[], ◌∷◌}
+use mathlib.Core.Path.{ap, ◌∙◌}
 use Rattle.calls.specs.Refusals.{checked_number}
-use Rattle.calls.proofs.Refusals.{number_told}
-use Rattle.read.specs.declared.Reading.{Reading}
-use Rattle.station.specs.Records.{record_list}
-use Rattle.station.proofs.Passes.{read_told, read_few}
+use Rattle.station.specs.Outcomes.{answered_records, answered_counts}
+use Rattle.station.proofs.Passes.{read_few, read_number}
 use Rattle.station.proofs.station_read.Goals as goal
 
-pub list_sectors-requires : goal.list_sectors-requires
-list_sectors-requires c =
-    let r = c.read-reading.ensures in
-    (rw r.answers (read_few _ _ _ _ _), refl)
+pub list_answered-requires : goal.list_answered-requires
+list_answered-requires c = read_few _ _ _ _ _ _ c.read-answer.ensures.answers
 
 pub returns : goal.returns
 returns c =
-    let r = c.read-reading.ensures in
+    let r = c.read-answer.ensures in
     record {
-      numbered = c.checked_number.ensures ∙ ap (λ (x : Reading). checked_number x.verdict) r.answers ∙ ap checked_number (read_told _ _ _ _ _) ∙ number_told _;
+      numbered = c.checked_number.ensures ∙ ap checked_number r.answers ∙ read_number _ _ _ _ _;
       leaves = r.leaves;
-      recorded = c.list_sectors.ensures ∙ ap (λ (x : Reading). record_list x.sectors x.records) r.answers;
-      counted = ap (λ (x : Reading). x.bad ∷ x.foreign ∷ []) r.answers;
+      recorded = c.list_answered.ensures ∙ ap answered_records r.answers;
+      counted = c.answered_counts.ensures ∙ ap answered_counts r.answers;
     }

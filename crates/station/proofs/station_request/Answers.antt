@@ -1,8 +1,10 @@
 -- `station_request` meets its contract: what `request` answers, in numbers.
 use mathlib.Core.Path.{ap, ◌∙◌}
 use lib.ListN.{length}
-use Rattle.request.specs.Outcomes.{requested_number}
-use Rattle.request.specs.declared.Requested.{Requested}
+use Rattle.std.specs.Prelude.{Result}
+use Rattle.calls.specs.Refusals.{checked_number}
+use Rattle.calls.specs.declared.Refusal.{Refusal}
+use Rattle.rewrite.specs.declared.Plan.{Plan}
 use Rattle.station.specs.Outcomes.{noted}
 use Rattle.station.proofs.station_request.Goals as goal
 
@@ -11,6 +13,6 @@ returns c =
     let image = c.args.image.now in
     let e = c.request-answer.ensures in
     record {
-      numbered = c.request_number.ensures ∙ ap requested_number e;
-      notes = c.noted.ensures ∙ ap (λ (x : Requested). noted x (length image)) e;
+      numbered = c.checked_number.ensures ∙ ap checked_number e;
+      notes = c.noted.ensures ∙ ap (λ (x : Result Plan Refusal). noted x (length image)) e;
     }

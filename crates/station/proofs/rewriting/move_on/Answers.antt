@@ -2,6 +2,6 @@
 use Rattle.station.proofs.Planning.{step_made}
 use Rattle.station.proofs.rewriting.move_on.Goals as goal
 
-pub returns-in-Made : goal.returns-in-Made
-returns-in-Made c =
-    step_made _ _ _ _ _ c.in-Made.is c.plan_numbers.ensures
+pub returns-in-Ok : goal.returns-in-Ok
+returns-in-Ok c =
+    step_made _ _ _ _ _ c.in-Ok.is c.plan_numbers.ensures
