@@ -41,7 +41,7 @@ fn print_answers(rt: &impl Print, sectors: usize, records: Records) -> io::Resul
     Ok(())
 }
 
-// What the call answered for the track.
+// What was read of the track.
 fn print_reading(
     rt: &impl Print,
     layout: u8,
@@ -49,15 +49,10 @@ fn print_reading(
     side: u8,
     reading: Reading,
 ) -> io::Result<()> {
-    let verdict = reading.verdict;
-    if let calls::Checked::Refused(refusal) = verdict {
-        return print_refusal(rt, calls::refusal_number(refusal));
-    }
-    let records = reading.records;
     rt.write_all(b"track ")?;
     print_number(rt, cylinder as u64, b' ')?;
     print_line(rt, side as u64, layout as u64)?;
-    print_answers(rt, reading.sectors, records)?;
+    print_answers(rt, reading.sectors, reading.records)?;
     rt.write_all(b"idents ")?;
     print_line(rt, reading.bad as u64, reading.foreign as u64)
 }
@@ -80,14 +75,17 @@ fn print_track(
 ) -> io::Result<()> {
     let mut area = [0u8; 8192];
     let end = area_bytes(layout);
-    let reading = read::read(
+    let answer = read::read(
         layout as u32,
         cylinder as u32,
         side as u32,
         image,
         &mut area[0..end],
     );
-    print_reading(rt, layout, cylinder, side, reading)
+    match answer {
+        Ok(reading) => print_reading(rt, layout, cylinder, side, reading),
+        Err(refusal) => print_refusal(rt, u8::from(refusal)),
+    }
 }
 
 fn main(rt: HostRuntime) {

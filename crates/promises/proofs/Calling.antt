@@ -4,21 +4,18 @@ use mathlib.Core.List.{List}
 use Prim.Native.Nat.{ℕ, suc, ◌≤◌}
 use borrow.Author.Tests.{le-ltb}
 use lib.ListN.{length}
+use Rattle.calls.specs.declared.Refusal.{Refusal}
+use Rattle.std.specs.Prelude.{Result, Ok, Err}
 use Rattle.format.specs.Outcomes.{Formats}
 use Rattle.format.specs.Refusals.{format_tests}
 use Rattle.layouts.specs.Layouts.{highest, layout_of}
-use Rattle.calls.specs.Refusals.{refusal_number}
-use Rattle.calls.specs.declared.Checked.TheVariants.{Passed}
+use Rattle.calls.specs.Refusals.{refusal_number, checked_number}
 use Rattle.marks.specs.Marks.{mark_of}
 use Rattle.calls.proofs.Refusals.{told_passing, numbers_apart}
 use Rattle.rewrite.specs.Outcomes.{stores_in_all, step_answer}
-use Rattle.request.specs.Outcomes.{request_answer, requested_number, Requests}
+use Rattle.request.specs.Outcomes.{request_answer, Requests}
 use Rattle.rewrite.specs.Stores.{store_count}
 use Rattle.rewrite.specs.declared.Plan.{Plan}
-use Rattle.request.specs.declared.Requested.{Requested}
-use Rattle.request.specs.declared.Requested.TheVariants as request
-use Rattle.rewrite.specs.declared.Stepped.{Stepped}
-use Rattle.rewrite.specs.declared.Stepped.TheVariants as step
 use Rattle.station.specs.Outcomes.{plan_numbers, numbered_plan, noted, moved, GivesRequest}
 use Rattle.verdicts.specs.Tests.{passed, refusal, by}
 use Rattle.verdicts.proofs.Tests.{by_passed}
@@ -31,9 +28,9 @@ use Rattle.promises.proofs.rewriting.Beginning.{formatted_can_be_rewritten}
 use Rattle.promises.proofs.rewriting.Granted.{Granted, granted}
 
 -- The plan that a step hands back is the one in hand.
-handed : (answer : Stepped) (held : List ℕ) (bytes : ℕ) → numbered_plan (moved answer held bytes) ≡ in_hand (numbered_plan held) answer
-handed (step.Made plan) held bytes = refl
-handed (step.Refused f) held bytes = refl
+handed : (answer : Result Plan Refusal) (held : List ℕ) (bytes : ℕ) → numbered_plan (moved answer held bytes) ≡ in_hand (numbered_plan held) answer
+handed (Ok plan) held bytes = refl
+handed (Err f) held bytes = refl
 
 pub called_ran : CallsAreARun
 called_ran mark contents plan image j held now unstepped = begun
@@ -45,12 +42,12 @@ called_ran mark contents plan image j held now (stepped k before middle number n
     (record { answers = refl; leaves = g.leaves }))
 
 -- A request that gives 0 is accepted, with the plan that its numbers say, and the fourth counts the stores.
-planned : (answer : Requested) (plan : List ℕ) (bytes : ℕ) → 0 ≡ requested_number answer → plan ≡ noted answer bytes
-    → (request.Planned (numbered_plan plan) ≡ answer) × (plan ≡ plan_numbers (numbered_plan plan) bytes)
-planned (request.Planned p) plan bytes n e =
+planned : (answer : Result Plan Refusal) (plan : List ℕ) (bytes : ℕ) → 0 ≡ checked_number answer → plan ≡ noted answer bytes
+    → (Ok (numbered_plan plan) ≡ answer) × (plan ≡ plan_numbers (numbered_plan plan) bytes)
+planned (Ok p) plan bytes n e =
     let same : numbered_plan plan ≡ p = ap numbered_plan e in
-    (ap request.Planned same, e ∙ ap (λ (x : Plan). plan_numbers x bytes) (sym same))
-planned (request.Refused f) plan bytes n e = absurd (none f n)
+    (ap Ok same, e ∙ ap (λ (x : Plan). plan_numbers x bytes) (sym same))
+planned (Err f) plan bytes n e = absurd (none f n)
 
 -- In a layout that there is, the fourth number is the count of the stores.
 in_all_lem : (plan : Plan) (bytes : ℕ) → plan.layout ≤ highest → stores_in_all plan bytes ≡ store_count (layout_of plan.layout) plan.place bytes
@@ -59,7 +56,7 @@ in_all_lem plan bytes known = rw (le-ltb highest plan.layout known)
 
 module _ (layout cylinder side sector mark : ℕ) (contents image plan : List ℕ)
     (gives : GivesRequest layout cylinder side sector mark contents image 0 plan) where
-  pub asked : Requests layout cylinder side sector mark contents image (request.Planned (numbered_plan plan))
+  pub asked : Requests layout cylinder side sector mark contents image (Ok (numbered_plan plan))
   asked = (planned (request_answer layout cylinder side sector mark contents image) plan (length image) gives.numbered gives.notes).0
 
   in_numbers : plan ≡ plan_numbers (numbered_plan plan) (length image)
@@ -105,9 +102,9 @@ starts_again_there layout cylinder side sector mark contents image plan gives j 
     let newCount = all_stores layout cylinder side sector newMark newContents now newPlan newGives in
     let there : GivesRequest layout cylinder side sector newMark newContents image 0 newPlan =
     record {
-      numbered = ap requested_number only.2;
+      numbered = ap checked_number only.2;
       notes = in_numbers layout cylinder side sector newMark newContents now newPlan newGives
-          ∙ ap₂ (λ (x : Plan) (k : ℕ). plan_numbers x k) only.1 long ∙ ap (λ (a : Requested). noted a (length image)) only.2;
+          ∙ ap₂ (λ (x : Plan) (k : ℕ). plan_numbers x k) only.1 long ∙ ap (λ (a : Result Plan Refusal). noted a (length image)) only.2;
     } in
     let oldCount = all_stores layout cylinder side sector newMark newContents image newPlan there in (
       there,
@@ -123,10 +120,10 @@ accepted_there layout cylinder side written marks before image small formatted s
     let v = refusal (format_tests layout cylinder side written marks (length before)) in
     let passes : v ≡ passed = by_passed 0 refusal_number none numbers_apart v 0
     formatted.answers refl in
-    let wrote : Formats layout cylinder side written marks before Passed image =
+    let wrote : Formats layout cylinder side written marks before (Ok _) image =
     record { answers = told_passing v passes; leaves = formatted.leaves } in
     let can = formatted_can_be_rewritten layout cylinder side written marks before image small wrote sector mark contents named fit in
-    gives.numbered ∙ sym (ap requested_number can.asked)
+    gives.numbered ∙ sym (ap checked_number can.asked)
 
 pub accepted_again_there : AcceptedAgainThere
 accepted_again_there layout cylinder side sector mark contents image plan gives j held now h called newMark newContents number newPlan newGives =
@@ -137,8 +134,8 @@ accepted_again_there layout cylinder side sector mark contents image plan gives 
     newMark newContents in
     let long = same_length layout cylinder side sector mark contents image plan gives j held now h called in (
       λ fit. let new = again.accepted fit in (
-        newGives.numbered ∙ sym (ap requested_number new),
-        newGives.notes ∙ sym (ap (λ (a : Requested). noted a (length now)) new) ∙ ap (plan_numbers (numbered_plan plan)) long
+        newGives.numbered ∙ sym (ap checked_number new),
+        newGives.notes ∙ sym (ap (λ (a : Result Plan Refusal). noted a (length now)) new) ∙ ap (plan_numbers (numbered_plan plan)) long
             ∙ sym (in_numbers layout cylinder side sector mark contents image plan gives),
       ),
       λ zero.

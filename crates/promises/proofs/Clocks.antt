@@ -8,6 +8,8 @@ use native.Mathlib.Omega.{arith}
 use borrow.Author.Tests.{le-leb, lt-leb}
 use lib.Dec.{leb}
 use lib.ListN.{length, take}
+use Rattle.calls.specs.declared.Refusal.{Refusal}
+use Rattle.std.specs.Prelude.{Result, IsOkAnd, replicate}
 use Rattle.answers.specs.Answers.{no_place}
 use Rattle.answers.specs.Letters.{answer_after}
 use Rattle.answers.specs.declared.Answer.{Answer}
@@ -24,7 +26,7 @@ use Rattle.marks.specs.declared.Mark.{Mark}
 use Rattle.marks.specs.declared.Mark.TheVariants as marks
 use Rattle.marks.proofs.Spelling.{one_mark}
 use Rattle.read.specs.Records.{Sector, its_clocks, refused as refusing, block_after, block_answer, block_bytes, identifier_record, record_for, sector_of, by_sector, slot_of}
-use Rattle.read.specs.Outcomes.{read_answer}
+use Rattle.read.specs.Outcomes.{reading}
 use Rattle.read.specs.declared.Reading.{Reading}
 use Rattle.read.proofs.Recording.{block_cases}
 use Rattle.read.proofs.Sectors.{map_all}
@@ -45,7 +47,7 @@ use Rattle.promises.specs.Rewriting.{number}
 use Rattle.promises.specs.Sectors.{sector_in}
 use Rattle.promises.proofs.Blocks.{block_clocks_lem}
 use Rattle.promises.proofs.Demands.{passed_slot}
-use Rattle.promises.proofs.Doors.{accepted_reads, accepted_verdict, gives_back_as_written}
+use Rattle.promises.proofs.Doors.{accepted_reads, gives_back_as_written}
 use Rattle.promises.proofs.Records.{by_blocks, numbered_back, of_every_record}
 use Rattle.promises.proofs.formatting.Calls.{written_taken}
 use Rattle.promises.proofs.formatting.Single.{blocks_none, data_take}
@@ -161,10 +163,9 @@ given_back : (layout cylinder side : ℕ) (image : List ℕ) (given s : ℕ) →
     → ◌≡◌ {A = Sector} (record { known = numbered_at records s; slot = slot_in (layout_of layout).size s area }) (sector_in (track_of layout cylinder side) image s)
 given_back layout cylinder side image given s named area records counts p =
     let reads = accepted_reads layout cylinder side image given area records counts p in
-    let passes = accepted_verdict layout cylinder side image given area records counts p in
     rw (
       numbered_back layout cylinder side image given s named area records counts p,
-      passed_slot layout cylinder side image given (read_answer layout cylinder side image given) area reads passes s named,
+      passed_slot layout cylinder side image given (reading (track_of layout cylinder side) image) area reads s named,
     )
 
 pub answers_without_clocks : AnswersWithoutClocks
@@ -196,9 +197,9 @@ faultless_clocks =
     record {
       formatted = λ layout cylinder side contents marks before image answer area all formats reads.
           let taken = written_taken layout cylinder side contents marks before image answer area all formats reads in
-          ap (λ (r : Reading). r.records.clocks) taken.told
-          ∙ map_all (λ s. its_clocks (sector_in (track_of layout cylinder side) image s)) 0
-          (all_faultless (track_of layout cylinder side) contents marks image taken.back) most_sectors 1;
+          subst (λ (r : Result Reading Refusal). IsOkAnd r (λ hands. hands.records.clocks ≡ replicate most_sectors 0)) (sym taken.told)
+          (map_all (λ s. its_clocks (sector_in (track_of layout cylinder side) image s)) 0
+          (all_faultless (track_of layout cylinder side) contents marks image taken.back) most_sectors 1);
       there = λ layout cylinder side contents marks before image number area records counts s all formats reads named.
           (gives_back_as_written layout cylinder side contents marks before image number area records counts all formats reads).clocks s named;
       rewritten = λ layout cylinder side sector mark contents image plan held now asked ran all.

@@ -5,19 +5,20 @@ use mathlib.Core.List.{List, [], ◌∷◌}
 use Prim.Native.Nat.{ℕ, ◌*◌, ◌≤◌}
 use native.Mathlib.Omega.{arith}
 use lib.ListN.{length, replicate}
+use Rattle.pick.specs.declared.Choice.{Choice}
+use Rattle.std.specs.Prelude.{⊤, Result, Ok, Err}
 use Rattle.cells.specs.Cells.{cell}
 use Rattle.format.specs.Order.{Numbered}
 use Rattle.layouts.specs.Layouts.{layout_of, slot_in}
 use Rattle.calls.specs.Refusals.{refusal_number, checked_number}
 use Rattle.layouts.specs.Tracks.{track_of}
 use Rattle.layouts.specs.declared.Track.{Track}
-use Rattle.calls.specs.declared.Checked.TheVariants.{Passed, Refused}
 use Rattle.calls.specs.declared.Refusal.{Refusal}
-use Rattle.calls.proofs.Refusals.{number_told, numbers_apart, number_known}
+use Rattle.calls.proofs.Refusals.{number_told, numbers_apart, number_known, passed_with}
 use Rattle.read.specs.Records.{slot_of, refused as refusing, block_answer, block_bytes, identifier_record, record_for, sector_of}
 use Rattle.answers.specs.Answers.{answer_number, carries, no_place, record_at}
-use Rattle.read.specs.Outcomes.{reading, refused_reading, read_tests, read_answer, read_area, Reads}
-use Rattle.pick.specs.Picks.{choice, pick_tests, chosen_of, stretch_in}
+use Rattle.read.specs.Outcomes.{reading, read_tests, read_answer, read_area, Reads}
+use Rattle.pick.specs.Picks.{choice, pick_tests, chosen_of, stretch_of}
 use Rattle.answers.specs.declared.Answer.{Answer}
 use Rattle.answers.specs.declared.Answer.TheVariants as answers
 use Rattle.pick.specs.declared.Choice.TheVariants.{First, Second, Neither}
@@ -27,14 +28,10 @@ use Rattle.read.specs.declared.Reading.{Reading}
 use Rattle.answers.specs.declared.Record.{Record}
 use Rattle.answers.proofs.Numbering.{answers_apart}
 use Rattle.read.proofs.Passing.{modest}
-use Rattle.request.specs.Outcomes.{requested_number}
-use Rattle.rewrite.specs.Outcomes.{stepped_number}
-use Rattle.request.specs.declared.Requested.TheVariants as request
-use Rattle.rewrite.specs.declared.Stepped.TheVariants as step
 use Rattle.verdicts.specs.Tests.{Test, Verdict, passed, refused, refusal, by}
 use Rattle.verdicts.proofs.Tests.{clash, exactly, by_passed, by_refused, by_map}
 use Rattle.walk.specs.Events.{blocks}
-use Rattle.locate.specs.Outcomes.{located, located_number}
+use Rattle.locate.specs.Outcomes.{located, located_number, locate_number}
 use Rattle.walk.specs.Outcomes.{met}
 use Rattle.walk.specs.declared.Block.{Block}
 use Rattle.walk.specs.declared.Block.TheVariants.{Missing, Beyond, Within}
@@ -60,9 +57,7 @@ pub refused_leaves_zeros : RefusedLeavesZeros
 unfolding read_answer read_area by
 refused_leaves_zeros layout cylinder side image given answer after f p e =
     let v = refusal (read_tests layout cylinder side (length image) given) in
-    let told : v ≡ refused f = by_refused Passed Refused (λ f e. clash cc) (λ g f e. cc) v answer.verdict f
-    (ap (λ (r : Reading). r.verdict) p.answers
-    ∙ by_map (λ (r : Reading). r.verdict) v (reading (track_of layout cylinder side) image) refused_reading) e in
+    let told : v ≡ refused f = by_refused (Ok (reading (track_of layout cylinder side) image)) Err (λ f e. clash cc) (λ g f e. cc) v answer f p.answers e in
     p.leaves ∙ rw told
 
 -- An answer from 21 on carries no bytes.
@@ -96,28 +91,24 @@ pub taken : {A : Type 0} (v : Verdict Refusal) → v ≡ passed → (this : A) (
 unfolding by
 taken v e this that = rw e
 
-module _ (layout cylinder side : ℕ) (image : List ℕ) (given : ℕ) (answer : Reading) (after : List ℕ)
-    (p : Reads layout cylinder side image given answer after) (passes : answer.verdict ≡ Passed) where
+module _ (layout cylinder side : ℕ) (image : List ℕ) (given : ℕ) (hands : Reading) (after : List ℕ)
+    (p : Reads layout cylinder side image given (Ok hands) after) where
   -- A read that is not refused: its tests pass,
   pub tests_passed : refusal (read_tests layout cylinder side (length image) given) ≡ passed
   unfolding read_answer
-  tests_passed =
-      let v = refusal (read_tests layout cylinder side (length image) given) in
-      by_passed Passed Refused (λ f e. clash cc) (λ g f e. cc) v answer.verdict
-      (ap (λ (r : Reading). r.verdict) p.answers ∙ by_map (λ (r : Reading). r.verdict) v (reading (track_of layout cylinder side) image) refused_reading)
-      passes
+  tests_passed = (passed_with _ _ _ p.answers).0
 
   -- and it hands back what its track holds.
-  pub passed_reading : answer ≡ reading (track_of layout cylinder side) image
+  pub passed_reading : hands ≡ reading (track_of layout cylinder side) image
   unfolding read_answer
-  passed_reading = p.answers ∙ taken _ tests_passed (reading (track_of layout cylinder side) image) refused_reading
+  passed_reading = (passed_with _ _ _ p.answers).1
 
   -- Of each of its sectors, the number of the answer, and the slot.
   module _ (s : ℕ) (named : Numbered (layout_of layout) s) where
     abbrev t : Track
     t = track_of layout cylinder side
 
-    pub passed_number : answer_number (record_at answer.records s).answer ≡ answer_number (sector_in t image s).known.answer
+    pub passed_number : answer_number (record_at hands.records s).answer ≡ answer_number (sector_in t image s).known.answer
     passed_number =
         ap (λ (r : Reading). answer_number (record_at r.records s).answer) passed_reading
         ∙ ap (λ (r : Record). answer_number r.answer) (record_read t image s named.0 named.1 (modest layout).1)
@@ -129,9 +120,9 @@ module _ (layout cylinder side : ℕ) (image : List ℕ) (given : ℕ) (answer :
         slot_read t image s named.0 named.1 (modest layout).2 after (p.leaves ∙ taken v tests_passed _ (λ f. replicate given 0))
 
 pub refused_sectors_leave_zeros : RefusedSectorsLeaveZeros
-refused_sectors_leave_zeros layout cylinder side image given answer after s p passes named high =
-    let same = passed_number layout cylinder side image given answer after p passes s named in
-    passed_slot layout cylinder side image given answer after p passes s named
+refused_sectors_leave_zeros layout cylinder side image given hands after s p named high =
+    let same = passed_number layout cylinder side image given hands after p s named in
+    passed_slot layout cylinder side image given hands after p s named
     ∙ refused_slots_are_zero (track_of layout cylinder side) image s (omega (arith, same))
 
 -- What is picked is one of the four, and no other.
@@ -147,8 +138,8 @@ part_of_one_pass layout sector first one second two answer part p q =
     b = record_at two sector
 
     go : (x : Verdict Refusal) (m n : Bool) → carries a.answer ≡ m → carries b.answer ≡ n
-        → answer ≡ by x (cond m (First a) (cond n (Second b) (Neither a))) pick.Refused
-        → part ≡ stretch_in (layout_of layout) sector first second (by x (cond m (First a) (cond n (Second b) (Neither a))) pick.Refused)
+        → answer ≡ by x (Ok (cond m (First a) (cond n (Second b) (Neither a)))) Err
+        → part ≡ stretch_of (layout_of layout) sector first second (by x (Ok (cond m (First a) (cond n (Second b) (Neither a)))) Err)
         → OfOnePass (layout_of layout) sector first second a b answer part
     go passed true n h k e u =
         record { of_first = λ r c. (cc, h, u); of_second = λ r c. absurd (clash cc); of_neither = λ r c. absurd (clash cc); of_refused = λ f c. absurd (clash cc) }
@@ -172,15 +163,13 @@ format_refuses layout cylinder side contents marks before answer after p =
 pub read_refuses : ReadRefuses
 unfolding read_answer
 read_refuses layout cylinder side image given answer after p =
-    by_tests _ (checked_number answer.verdict)
-    (ap (λ (r : Reading). checked_number r.verdict) p.answers
-    ∙ by_map (λ (r : Reading). checked_number r.verdict) _ (reading (track_of layout cylinder side) image) refused_reading)
+    by_tests _ (checked_number answer) (ap checked_number p.answers ∙ by_map checked_number _ (Ok (reading (track_of layout cylinder side) image)) Err)
 
 pub locate_refuses : LocateRefuses
 unfolding located
 locate_refuses layout cylinder side sector image answer p =
-    exactly (located_number (located bs)) refusal_number (λ f e. unrefused bs f e) numbers_apart _ (located_number answer)
-    (ap located_number p ∙ by_map located_number _ (located bs) locate.Refused)
+    exactly (located_number (located bs)) refusal_number (λ f e. unrefused bs f e) numbers_apart _ (locate_number answer)
+    (ap locate_number p ∙ by_map locate_number _ (Ok (located bs)) Err)
   where
     bs : List Block
     bs = blocks sector (met (track_of layout cylinder side) image)
@@ -193,24 +182,19 @@ locate_refuses layout cylinder side sector image answer p =
     unrefused (b ∷ x ∷ bs) f e = let k = number_known f in absurd (omega arith)
 
 -- Of two passes: what is picked where nothing is refused is no refusal.
-pub choice_unrefused : (a b : Record) (f : Refusal) → choice a b ≡ pick.Refused f → ⊥
-choice_unrefused a b f e = go (carries a.answer) (carries b.answer) e
-  where
-    go : (x y : Bool) → cond x (First a) (cond y (Second b) (Neither a)) ≡ pick.Refused f → ⊥
-    go true y e = clash cc
-    go false true e = clash cc
-    go false false e = clash cc
+pub choice_unrefused : (a b : Record) (f : Refusal) → ◌≡◌ {A = Result Choice Refusal} (Ok (choice a b)) (Err f) → ⊥
+choice_unrefused a b f e = clash cc
 
 pub pick_refuses : PickRefuses
 unfolding chosen_of
 pick_refuses layout sector first one second two answer p =
-    exactly (choice (record_at one sector) (record_at two sector)) pick.Refused (choice_unrefused (record_at one sector) (record_at two sector))
+    exactly (Ok (choice (record_at one sector) (record_at two sector))) Err (choice_unrefused (record_at one sector) (record_at two sector))
     (λ g f e. cc) _ _ p
 
 pub request_refuses : RequestRefuses
 request_refuses layout cylinder side sector mark contents image answer p =
-    by_tests _ (requested_number answer) (ap requested_number p ∙ by_map requested_number _ (request.Planned _) request.Refused)
+    by_tests _ (checked_number answer) (ap checked_number p ∙ by_map checked_number _ (Ok _) Err)
 
 pub step_refuses : StepRefuses
 step_refuses plan mark contents before answer after p =
-    by_tests _ (stepped_number answer) (ap stepped_number p.answers ∙ by_map stepped_number _ (step.Made _) step.Refused)
+    by_tests _ (checked_number answer) (ap checked_number p.answers ∙ by_map checked_number _ (Ok _) Err)

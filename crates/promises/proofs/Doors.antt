@@ -8,18 +8,18 @@ use Prim.Native.Nat.{ℕ, ◌+◌, ◌-◌, ◌*◌, ◌<◌, ◌≤◌}
 use native.Mathlib.Omega.{arith}
 use borrow.Author.Tests.{le-leb}
 use lib.ListN.{length, get_or, replicate}
+use Rattle.std.specs.Prelude.{Result, Ok, Err}
 use Rattle.format.specs.Refusals.{format_tests}
 use Rattle.format.specs.Order.{Numbered}
 use Rattle.layouts.specs.Layouts.{layout_of, most_sectors, slot_in}
-use Rattle.calls.specs.Refusals.{refusal_number}
+use Rattle.calls.specs.Refusals.{refusal_number, checked_number}
 use Rattle.layouts.specs.Tracks.{track_of}
 use Rattle.layouts.specs.declared.Layout.{Layout}
-use Rattle.calls.specs.declared.Checked.TheVariants.{Passed, Refused}
 use Rattle.calls.specs.declared.Refusal.{Refusal}
-use Rattle.calls.proofs.Refusals.{told_passing, numbers_apart, number_known}
+use Rattle.calls.proofs.Refusals.{told_passing, passed_with, numbers_apart, number_known}
 use Rattle.answers.specs.Answers.{answer_number, carries, record_at}
 use Rattle.read.specs.Records.{slots}
-use Rattle.read.specs.Outcomes.{reading, refused_reading, read_tests, read_answer, read_area, Reads}
+use Rattle.read.specs.Outcomes.{reading, read_tests, read_answer, read_area, Reads}
 use Rattle.pick.specs.Picks.{area_tests, pick_tests, choice, chosen_of}
 use Rattle.answers.specs.declared.Answer.{Answer}
 use Rattle.answers.specs.declared.Answer.TheVariants as answers
@@ -32,11 +32,7 @@ use Rattle.read.proofs.Passing.{modest}
 use Rattle.pick.proofs.Picking.{pickable}
 use Rattle.station.proofs.Listing.{slot_number, listed_at_lem}
 use Rattle.station.proofs.Passes.{read_back}
-use Rattle.rewrite.specs.Outcomes.{stepped_number}
-use Rattle.request.specs.Outcomes.{requested_number}
-use Rattle.request.specs.declared.Requested.TheVariants as request
-use Rattle.rewrite.specs.declared.Stepped.TheVariants as step
-use Rattle.station.specs.Outcomes.{verdict_number, GivesRead}
+use Rattle.station.specs.Outcomes.{verdict_number, answered_records, answered_counts, GivesRead}
 use Rattle.station.specs.Picks.{pick_number, handed_on, part_of}
 use Rattle.station.specs.Records.{record_width, record_numbers, sector_numbers, record_list, numbered_at}
 use Rattle.verdicts.specs.Tests.{Verdict, passed, refused, refusal, by}
@@ -80,20 +76,20 @@ pick_numbers layout sector first second f (inr (inr (inr (inr h)))) = absurd h
 
 -- What is picked where nothing is refused has the number of an answer.
 choice_apart : (one two : Record) (f : Refusal) → (refusal_number f ≡ 4) ⊎ ((refusal_number f ≡ 9) ⊎ (refusal_number f ≡ 5))
-    → pick_number (choice one two) ≡ refusal_number f → ⊥
+    → pick_number (Ok (choice one two)) ≡ refusal_number f → ⊥
 choice_apart one two f h e = go (carries one.answer) (carries two.answer) e
   where
-    go : (x y : Bool) → pick_number (cond x (pick.First one) (cond y (pick.Second two) (pick.Neither one))) ≡ refusal_number f → ⊥
+    go : (x y : Bool) → pick_number (Ok (cond x (pick.First one) (cond y (pick.Second two) (pick.Neither one)))) ≡ refusal_number f → ⊥
     go true y e = answer_apart one.answer f h e
     go false true e = answer_apart two.answer f h e
     go false false e = answer_apart one.answer f h e
 
 -- A pick whose number is that of a refusal in its list is that refusal.
 pick_told : (v : Verdict Refusal) (one two : Record) (f : Refusal) → (refusal_number f ≡ 4) ⊎ ((refusal_number f ≡ 9) ⊎ (refusal_number f ≡ 5))
-    → pick_number (by v (choice one two) pick.Refused) ≡ refusal_number f → by v (choice one two) pick.Refused ≡ pick.Refused f
+    → pick_number (by v (Ok (choice one two)) Err) ≡ refusal_number f → by v (Ok (choice one two)) Err ≡ Err f
 unfolding by
 pick_told passed one two f h e = absurd (choice_apart one two f h e)
-pick_told (refused g) one two f h e = ap pick.Refused (numbers_apart g f e)
+pick_told (refused g) one two f h e = ap Err (numbers_apart g f e)
 
 pub doors_refuse : DoorsRefuse
 unfolding chosen_of
@@ -103,14 +99,14 @@ doors_refuse =
           by_tests _ number p.answers;
       read = λ layout cylinder side image given number area records counts p. by_tests _ number p.numbered;
       request = λ layout cylinder side sector mark contents image number plan p.
-          by_tests _ number (p.numbered ∙ by_map requested_number _ (request.Planned _) request.Refused);
+          by_tests _ number (p.numbered ∙ by_map checked_number _ (Ok _) Err);
       step = λ before mark contents image number plan after p.
-          by_tests _ number (p.numbered ∙ by_map stepped_number _ (step.Made _) step.Refused);
+          by_tests _ number (p.numbered ∙ by_map checked_number _ (Ok _) Err);
       pick = λ layout sector first ones second twos number taken handed p f listed.
           let v = refusal (pick_tests layout sector (length first) (length second)) in
           let one = numbered_at ones sector in
           let two = numbered_at twos sector in
-          let both = exactly (choice one two) pick.Refused (choice_unrefused one two) (λ g f e. cc) _ (by v (choice one two) pick.Refused) refl f in (
+          let both = exactly (Ok (choice one two)) Err (choice_unrefused one two) (λ g f e. cc) _ (by v (Ok (choice one two)) Err) refl f in (
             λ e. both.0 (pick_told v one two f (pick_numbers layout sector (length first) (length second) f listed) (sym p.numbered ∙ e)),
             λ r. p.numbered ∙ ap pick_number (both.1 r),
           );
@@ -123,8 +119,7 @@ refused_read_gives_zeros layout cylinder side image given number area records co
     p.counted
   where
     go : (v : Verdict Refusal) (r : Reading) (slot : List ℕ) → number ≡ verdict_number v → area ≡ by v slot (λ f. replicate given 0)
-        → records ≡ record_list (by v r refused_reading).sectors (by v r refused_reading).records
-        → counts ≡ (by v r refused_reading).bad ∷ (by v r refused_reading).foreign ∷ []
+        → records ≡ answered_records (by v (Ok r) Err) → counts ≡ answered_counts (by v (Ok r) Err)
         → (area ≡ replicate given 0) × (records ≡ replicate (most_sectors * record_width) 0) × (counts ≡ 0 ∷ 0 ∷ [])
     go passed r slot n a b c = absurd (h n)
     go (refused f) r slot n a b c = (a, b, c)
@@ -160,73 +155,66 @@ clocks_in_lem count records s low inside few = number_in 2 (omega arith) count r
 -- A read that gives 0 hands back what its track holds.
 pub accepted_read : (layout cylinder side : ℕ) (image : List ℕ) (given : ℕ) (area records counts : List ℕ)
     → GivesRead layout cylinder side image given 0 area records counts
-    → read_answer layout cylinder side image given ≡ reading (track_of layout cylinder side) image
+    → read_answer layout cylinder side image given ≡ Ok (reading (track_of layout cylinder side) image)
 unfolding read_answer
 accepted_read layout cylinder side image given area records counts p =
     let v = refusal (read_tests layout cylinder side (length image) given) in
-    taken v (by_passed 0 refusal_number none numbers_apart v 0 p.numbered refl) (reading (track_of layout cylinder side) image) refused_reading
+    taken v (by_passed 0 refusal_number none numbers_apart v 0 p.numbered refl) (Ok (reading (track_of layout cylinder side) image)) Err
 
 module _ (layout cylinder side : ℕ) (image : List ℕ) (given : ℕ) (area records counts : List ℕ)
     (p : GivesRead layout cylinder side image given 0 area records counts) where
   -- It is a read that is not refused,
-  pub accepted_reads : Reads layout cylinder side image given (read_answer layout cylinder side image given) area
-  accepted_reads = record { answers = refl; leaves = p.leaves }
-
-  pub accepted_verdict : (read_answer layout cylinder side image given).verdict ≡ Passed
-  accepted_verdict = ap (λ (r : Reading). r.verdict) (accepted_read layout cylinder side image given area records counts p)
+  pub accepted_reads : Reads layout cylinder side image given (Ok (reading (track_of layout cylinder side) image)) area
+  accepted_reads = record { answers = sym (accepted_read layout cylinder side image given area records counts p); leaves = p.leaves }
 
   -- and the numbers of its answers are those that are handed out.
   pub accepted_number : (s : ℕ) → Numbered (layout_of layout) s
-      → answer_in records s ≡ answer_number (record_at (read_answer layout cylinder side image given).records s).answer
+      → answer_in records s ≡ answer_number (record_at (reading (track_of layout cylinder side) image).records s).answer
   accepted_number s named =
-      let hands = read_answer layout cylinder side image given in
+      let hands = reading (track_of layout cylinder side) image in
       let told = accepted_read layout cylinder side image given area records counts p in
-      let inside : s ≤ hands.sectors = rw told named.1 in
-      let few : hands.sectors ≤ most_sectors = rw told (modest layout).1 in
-      ap (λ (xs : List ℕ). answer_in xs s) p.recorded ∙ answer_in_lem hands.sectors hands.records s named.0 inside few
+      ap (λ (xs : List ℕ). answer_in xs s) (p.recorded ∙ ap answered_records told)
+      ∙ answer_in_lem hands.sectors hands.records s named.0 named.1 (modest layout).1
 
 pub refused_sectors_give_zeros : RefusedSectorsGiveZeros
 refused_sectors_give_zeros layout cylinder side image given area records counts s p named high =
     let same = accepted_number layout cylinder side image given area records counts p s named in
-    refused_sectors_leave_zeros layout cylinder side image given (read_answer layout cylinder side image given) area s
-    (accepted_reads layout cylinder side image given area records counts p) (accepted_verdict layout cylinder side image given area records counts p) named
-    (omega (arith, same))
+    refused_sectors_leave_zeros layout cylinder side image given (reading (track_of layout cylinder side) image) area s
+    (accepted_reads layout cylinder side image given area records counts p) named (omega (arith, same))
 
 pub gives_back_as_written : GivesBackAsWritten
 unfolding read_answer
 gives_back_as_written layout cylinder side contents marks before image number area records counts small formatted read =
-    let t = track_of layout cylinder side in
-    let given = (layout_of layout).area_bytes in
     let v = refusal (format_tests layout cylinder side contents marks (length before)) in
     let written : v ≡ passed = by_passed 0 refusal_number none numbers_apart v 0
     formatted.answers refl in
-    let w = refusal (read_tests layout cylinder side (length image) given) in
-    let hands = read_answer layout cylinder side image given in
-    let back = format_then_read layout cylinder side contents marks before image hands area small
+    let w = refusal (read_tests layout cylinder side (length image) (layout_of layout).area_bytes) in
+    let back = format_then_read layout cylinder side contents marks before image (read_answer layout cylinder side image (layout_of layout).area_bytes) area small
     (record { answers = told_passing v written; leaves = formatted.leaves })
     (record { answers = refl; leaves = read.leaves }) in
-    let accepted : w ≡ passed = by_passed Passed Refused (λ f e. clash cc) (λ g f e. cc) w hands.verdict
-    (by_map (λ (r : Reading). r.verdict) w (reading t image) refused_reading) back.accepted in
+    let hands = back.reading in
+    let accepted : w ≡ passed = (passed_with w hands _ (sym back.accepted)).0 in
+    let listed = read.recorded ∙ ap answered_records back.accepted in
     let few = modest layout in
     record {
       accepted = read.numbered ∙ taken w accepted 0 refusal_number;
       answered = λ s h.
           let inside : s ≤ hands.sectors = rw back.counted h.1 in
-          ap (λ (xs : List ℕ). answer_in xs s) read.recorded
+          ap (λ (xs : List ℕ). answer_in xs s) listed
           ∙ answer_in_lem hands.sectors hands.records s h.0 inside (rw back.counted few.1)
           ∙ back.answers s h;
       places = λ s h.
           let inside : s ≤ hands.sectors = rw back.counted h.1 in
-          ap (λ (xs : List ℕ). place_in xs s) read.recorded
+          ap (λ (xs : List ℕ). place_in xs s) listed
           ∙ place_in_lem hands.sectors hands.records s h.0 inside (rw back.counted few.1)
           ∙ back.places s h;
       clocks = λ s h.
           let inside : s ≤ hands.sectors = rw back.counted h.1 in
-          ap (λ (xs : List ℕ). clocks_in xs s) read.recorded
+          ap (λ (xs : List ℕ). clocks_in xs s) listed
           ∙ clocks_in_lem hands.sectors hands.records s h.0 inside (rw back.counted few.1)
           ∙ back.clocks s h;
       slots = back.slots;
-      counted = read.counted ∙ ap₂ (λ (a b : ℕ). a ∷ b ∷ []) back.bad back.foreign;
+      counted = read.counted ∙ ap answered_counts back.accepted ∙ ap₂ (λ (a b : ℕ). a ∷ b ∷ []) back.bad back.foreign;
     }
 
 -- ---- what a pick hands on
@@ -241,19 +229,20 @@ numbers_back : (layout cylinder side : ℕ) (image : List ℕ) (given : ℕ) (ar
     → (s : ℕ) → 1 ≤ s → s ≤ (layout_of layout).sectors → record_numbers (numbered_at records s) ≡ slot_in record_width s records
 unfolding sector_numbers
 numbers_back layout cylinder side image given area records counts p s low high =
-    let answer = read_answer layout cylinder side image given in
+    let hands = reading (track_of layout cylinder side) image in
+    let told = accepted_read layout cylinder side image given area records counts p in
     let few = (modest layout).1 in
-    let inside : s ≤ answer.sectors = rw (accepted_read layout cylinder side image given area records counts p) high in
-    ap record_numbers (read_back layout cylinder side image given 0 area records counts p s low (omega arith) inside)
-    ∙ sym (ap (slot_in record_width s) p.recorded ∙ listed_at_lem answer.sectors answer.records s low (omega arith) ∙ rw (le-leb s answer.sectors inside))
+    let listed = p.recorded ∙ ap answered_records told in
+    ap record_numbers (read_back layout cylinder side image given 0 area records counts p hands told s low (omega arith) high)
+    ∙ sym (ap (slot_in record_width s) listed ∙ listed_at_lem hands.sectors hands.records s low (omega arith) ∙ rw (le-leb s hands.sectors high))
 
 -- By which pass is taken, its record is handed on.
 choice_hands : (l : Layout) (sector : ℕ) (ones twos : List ℕ) (one two : Record) → record_numbers one ≡ slot_in record_width sector ones
-    → record_numbers two ≡ slot_in record_width sector twos → HandsOn sector ones twos (part_of l sector (choice one two)) (handed_on (choice one two))
+    → record_numbers two ≡ slot_in record_width sector twos → HandsOn sector ones twos (part_of l sector (Ok (choice one two))) (handed_on (Ok (choice one two)))
 choice_hands l sector ones twos one two e f = go (carries one.answer) (carries two.answer)
   where
     go : (x y : Bool)
-        → let p = cond x (pick.First one) (cond y (pick.Second two) (pick.Neither one)) in HandsOn sector ones twos (part_of l sector p) (handed_on p)
+        → let p = cond x (pick.First one) (cond y (pick.Second two) (pick.Neither one)) in HandsOn sector ones twos (part_of l sector (Ok p)) (handed_on (Ok p))
     go true y = record { first = λ h. e; second = λ h. absurd (omega arith); neither = λ h. absurd (omega arith); only = inl refl }
     go false true = record { first = λ h. absurd (omega arith); second = λ h. f; neither = λ h. absurd (omega arith); only = inr (inl refl) }
     go false false = record { first = λ h. absurd (omega arith); second = λ h. absurd (omega arith); neither = λ h. e; only = inr (inr refl) }

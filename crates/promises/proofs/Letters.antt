@@ -7,11 +7,11 @@ use native.Mathlib.Omega.{arith}
 use borrow.Author.Tests.{eq-eqb, ne_eqb, eqb-true}
 use lib.Dec.{eqb, leb}
 use lib.ListN.{length, get_or}
+use Rattle.std.specs.Prelude.{Ok}
 use Rattle.answers.specs.Answers.{answer_number, no_place, record_at}
 use Rattle.answers.specs.declared.Answer.{Answer}
 use Rattle.answers.specs.declared.Fault.TheVariants.{NoIdentifier}
 use Rattle.calls.specs.Refusals.{letter_d}
-use Rattle.calls.specs.declared.Checked.TheVariants.{Passed}
 use Rattle.cells.specs.Cells.{cell}
 use Rattle.format.specs.Order.{Numbered}
 use Rattle.layouts.specs.Layouts.{layout_of, slot_in}
@@ -20,7 +20,7 @@ use Rattle.layouts.specs.declared.Track.{Track}
 use Rattle.marks.specs.Marks.{mark_byte}
 use Rattle.marks.specs.declared.Mark.{Mark}
 use Rattle.marks.specs.declared.Mark.TheVariants as marks
-use Rattle.read.specs.Outcomes.{read_answer, Reads}
+use Rattle.read.specs.Outcomes.{reading, Reads}
 use Rattle.read.specs.declared.Reading.{Reading}
 use Rattle.read.proofs.Recording.{block_cases}
 use Rattle.station.specs.Outcomes.{GivesRead}
@@ -36,7 +36,7 @@ use Rattle.promises.specs.Doors.{answer_in}
 use Rattle.promises.specs.Letters.{Lettered, LettersDecide}
 use Rattle.promises.specs.Sectors.{sector_in}
 use Rattle.promises.proofs.Demands.{passed_number, passed_slot}
-use Rattle.promises.proofs.Doors.{accepted_reads, accepted_verdict, accepted_number}
+use Rattle.promises.proofs.Doors.{accepted_reads, accepted_number}
 
 -- ---- one block
 
@@ -155,27 +155,26 @@ module _ (t : Track) (image : List ℕ) where
 -- ---- in the words of the calls
 
 module _ (layout cylinder side : ℕ) (image : List ℕ) (given s : ℕ) (named : Numbered (layout_of layout) s) where
-  read_lettered : (answer : Reading) (after : List ℕ) → Reads layout cylinder side image given answer after → answer.verdict ≡ Passed
-      → Lettered cylinder (layout_of layout).size (answer_number (record_at answer.records s).answer) (slot_in (layout_of layout).size s after)
-  read_lettered answer after p passes =
-      let number = passed_number layout cylinder side image given answer after p passes s named in
-      let slot = passed_slot layout cylinder side image given answer after p passes s named in
+  read_lettered : (hands : Reading) (after : List ℕ) → Reads layout cylinder side image given (Ok hands) after
+      → Lettered cylinder (layout_of layout).size (answer_number (record_at hands.records s).answer) (slot_in (layout_of layout).size s after)
+  read_lettered hands after p =
+      let number = passed_number layout cylinder side image given hands after p s named in
+      let slot = passed_slot layout cylinder side image given hands after p s named in
       rw (number, slot) (sector_lettered (track_of layout cylinder side) image s)
 
   door_lettered : (area records counts : List ℕ) → GivesRead layout cylinder side image given 0 area records counts
       → Lettered cylinder (layout_of layout).size (answer_in records s) (slot_in (layout_of layout).size s area)
   door_lettered area records counts p =
       let reads = accepted_reads layout cylinder side image given area records counts p in
-      let passes = accepted_verdict layout cylinder side image given area records counts p in
       rw (accepted_number layout cylinder side image given area records counts p s named)
-      (read_lettered (read_answer layout cylinder side image given) area reads passes)
+      (read_lettered (reading (track_of layout cylinder side) image) area reads)
 
 pub letters_decide : LettersDecide
 letters_decide =
     record {
       sectors = sector_lettered;
-      read = λ layout cylinder side image given answer after s p passes named.
-          read_lettered layout cylinder side image given s named answer after p passes;
+      read = λ layout cylinder side image given hands after s p named.
+          read_lettered layout cylinder side image given s named hands after p;
       door = λ layout cylinder side image given area records counts s p named.
           door_lettered layout cylinder side image given s named area records counts p;
     }

@@ -6,6 +6,8 @@ use mathlib.Core.Logic.{inl, inr}
 use Prim.Native.Nat.{ℕ, ◌*◌, ◌<◌, ◌≤◌}
 use native.Mathlib.Omega.{arith}
 use lib.ListN.{length}
+use Rattle.station.specs.Outcomes.{answered_records}
+use Rattle.std.specs.Prelude.{Ok, Err}
 use Rattle.answers.specs.Answers.{no_place}
 use Rattle.answers.specs.declared.Answer.{Answer}
 use Rattle.answers.specs.declared.Answer.TheVariants as answers
@@ -124,7 +126,7 @@ block_place_lem : (t : Track) (image : List ℕ) (s m : ℕ) (b : Block) → s �
 block_place_lem t image s m b high alone e =
     ap (λ (x : Sector). x.known.place) (alone_so t (cell image) (8 * length image) (met t image) s b high alone) ∙ e
 
-module _ (layout cylinder side sector : ℕ) (image : List ℕ) (b : Block) (at : Locates layout cylinder side sector image (locate.Single b)) where
+module _ (layout cylinder side sector : ℕ) (image : List ℕ) (b : Block) (at : Locates layout cylinder side sector image (Ok (locate.Single b))) where
   abbrev tests : Verdict Refusal
   tests = refusal (locate_tests layout cylinder side (length image) sector)
 
@@ -138,11 +140,11 @@ module _ (layout cylinder side sector : ℕ) (image : List ℕ) (b : Block) (at 
       single (x ∷ []) e = cc
       single (x ∷ y ∷ bs) e = absurd (clash cc)
 
-      go : (v : Verdict Refusal) → tests ≡ v → locate.Single b ≡ by v (found layout cylinder side sector image) locate.Refused
+      go : (v : Verdict Refusal) → tests ≡ v → Ok (locate.Single b) ≡ by v (Ok (found layout cylinder side sector image)) Err
           → (sector ≤ (layout_of layout).sectors) × (blocks sector (met (track_of layout cylinder side) image) ≡ b ∷ [])
       go passed e h =
           let both = passed_both (reading_tests layout cylinder side (length image)) _ e in
-          ((sector_known (layout_of layout).sectors sector (first_passed _ _ both.1).0).1, single (blocks sector (met (track_of layout cylinder side) image)) h)
+          ((sector_known (layout_of layout).sectors sector (first_passed _ _ both.1).0).1, single (blocks sector (met (track_of layout cylinder side) image)) cc)
       go (refused f) e h = absurd (clash cc)
 
   located_place : (m : ℕ) → (identifier_record (track_of layout cylinder side) (cell image) (8 * length image) b).known.place ≡ m
@@ -163,10 +165,8 @@ place_of_mark =
           let ask = asked layout cylinder side sector mark contents image plan gives in
           let site = (granted layout cylinder side sector image mark contents _ ask).site in
           let told = accepted_read layout cylinder side image given area records counts p in
-          let inside : sector ≤ (read_answer layout cylinder side image given).sectors = rw told site.numbered in
-          let few : (read_answer layout cylinder side image given).sectors ≤ most_sectors = rw told (modest layout).1 in
-          ap (λ (xs : List ℕ). place_in xs sector) p.recorded
-          ∙ place_in_lem _ _ sector site.low inside few
-          ∙ ap (λ (r : Record). r.place) (handed_back layout cylinder side image given sector (site.low, site.numbered) _ told)
+          ap (λ (xs : List ℕ). place_in xs sector) (p.recorded ∙ ap answered_records told)
+          ∙ place_in_lem _ _ sector site.low site.numbered (modest layout).1
+          ∙ ap (λ (r : Record). r.place) (handed_back layout cylinder side image given sector (site.low, site.numbered) _ refl)
           ∙ block_place_lem (track_of layout cylinder side) image sector _ (Within _) site.numbered site.alone refl;
     }

@@ -1,5 +1,5 @@
 -- What holds of every sector's record holds wherever the record is handed out; and a sector's record goes by the blocks that its identifiers gave.
-use mathlib.Core.Path.{◌≡◌, sym, ap, subst, ◌∙◌}
+use mathlib.Core.Path.{◌≡◌, sym, ap, subst, ◌∙◌, refl}
 use mathlib.Core.Bool.{Bool, true, false, cond}
 use mathlib.Core.List.{List}
 use Prim.Native.Nat.{ℕ, ◌*◌}
@@ -15,7 +15,7 @@ use Rattle.layouts.specs.Layouts.{layout_of}
 use Rattle.layouts.specs.Tracks.{track_of}
 use Rattle.layouts.specs.declared.Track.{Track}
 use Rattle.read.specs.Records.{Sector, refused as refusing, record_for, sector_of}
-use Rattle.read.specs.Outcomes.{reading, read_answer}
+use Rattle.read.specs.Outcomes.{reading}
 use Rattle.read.specs.declared.Reading.{Reading}
 use Rattle.read.proofs.Passing.{modest}
 use Rattle.station.specs.Outcomes.{GivesRead}
@@ -59,18 +59,18 @@ module _ (layout cylinder side : ℕ) (image : List ℕ) (given s : ℕ) (named 
   numbered_back area records counts p =
       let told = accepted_read layout cylinder side image given area records counts p in
       let few = (modest layout).1 in
-      read_back layout cylinder side image given 0 area records counts p s named.0 (omega (arith, few, named.1)) (rw told named.1)
-      ∙ handed_back (read_answer layout cylinder side image given) told
+      read_back layout cylinder side image given 0 area records counts p (reading (track_of layout cylinder side) image) told s named.0 (omega (arith, few, named.1)) named.1
+      ∙ handed_back (reading (track_of layout cylinder side) image) refl
 
 pub of_every_record : (Holds : Track → List ℕ → Record → Type 0) → ((t : Track) (image : List ℕ) (s : ℕ) → Holds t image (sector_in t image s).known)
     → OfEveryRecord Holds
 of_every_record Holds holds =
     record {
       sectors = holds;
-      read = λ layout cylinder side image given answer after s p passes named.
+      read = λ layout cylinder side image given hands after s p named.
           let t = track_of layout cylinder side in
-          let told = passed_reading layout cylinder side image given answer after p passes in
-          subst (Holds t image) (sym (handed_back layout cylinder side image given s named answer told)) (holds t image s);
+          let told = passed_reading layout cylinder side image given hands after p in
+          subst (Holds t image) (sym (handed_back layout cylinder side image given s named hands told)) (holds t image s);
       door = λ layout cylinder side image given area records counts s p named.
           let t = track_of layout cylinder side in
           subst (Holds t image) (sym (numbered_back layout cylinder side image given s named area records counts p)) (holds t image s);

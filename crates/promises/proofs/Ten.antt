@@ -6,6 +6,8 @@ use Prim.Native.Nat.{ℕ, ◌*◌, ◌≤◌}
 use native.Mathlib.Omega.{arith}
 use borrow.Author.Tests.{le-leb}
 use lib.ListN.{length}
+use Rattle.calls.specs.Refusals.{checked_number}
+use Rattle.std.specs.Prelude.{Result, Ok, Err}
 use Rattle.cells.specs.Cells.{cell}
 use Rattle.layouts.specs.Layouts.{layout_of}
 use Rattle.layouts.specs.Refusals.{reading_tests}
@@ -20,9 +22,8 @@ use Rattle.read.proofs.Recording.{block_cases}
 use Rattle.answers.specs.Letters.{answer_after}
 use Rattle.answers.proofs.Letters.{answer_cases}
 use Rattle.answers.specs.declared.Answer.{Answer}
-use Rattle.request.specs.Outcomes.{requested_number, first_plan}
+use Rattle.request.specs.Outcomes.{first_plan}
 use Rattle.request.specs.Refusals.{is_within, boundary_test, call_tests, place_tests, request_tests}
-use Rattle.request.specs.declared.Requested.TheVariants as request
 use Rattle.verdicts.specs.Tests.{Verdict, passed, refused, refusal, by}
 use Rattle.verdicts.proofs.Tests.{clash, append_passed, passed_both, first_passed}
 use Rattle.walk.specs.Events.{blocks}
@@ -72,18 +73,18 @@ module _ (t : Track) (c : ℕ → ℕ) (n : ℕ) where
 
 -- 10 is given exactly if the block is not within; where it is, only 11 can be.
 ten_given : (layout : ℕ) (at : Located) (b : Bool) → is_within at ≡ b
-    → requested_number (by (refusal (place_tests at)) (request.Planned (first_plan layout at)) request.Refused) ≡ 10 → b ≡ false
+    → checked_number (by (refusal (place_tests at)) (Ok (first_plan layout at)) Err) ≡ 10 → b ≡ false
 unfolding place_tests refusal by
 ten_given layout at false e h = refl
 ten_given layout at true e h = go (boundary_test at).applies (rw e at h)
   where
-    go : (b : Bool) → requested_number (by (cond b (refused (boundary_test at).gives) passed) (request.Planned (first_plan layout at)) request.Refused) ≡ 10
+    go : (b : Bool) → checked_number (by (cond b (refused (boundary_test at).gives) passed) (Ok (first_plan layout at)) Err) ≡ 10
         → true ≡ false
     go true h = absurd (omega arith)
     go false h = absurd (omega arith)
 
 unfound_ten : (layout : ℕ) (at : Located) → is_within at ≡ false
-    → requested_number (by (refusal (place_tests at)) (request.Planned (first_plan layout at)) request.Refused) ≡ 10
+    → checked_number (by (refusal (place_tests at)) (Ok (first_plan layout at)) Err) ≡ 10
 unfolding place_tests refusal by
 unfound_ten layout at e = rw e
 
@@ -99,8 +100,8 @@ ten_as_read layout cylinder side sector mark contents image answer asked passes 
     let there = sector_known (layout_of layout).sectors sector (first_passed _ _ early.1).0 in
     let inside = le-leb sector (layout_of layout).sectors there.1 in
     let late = append_passed (call_tests layout cylinder side sector mark contents (length image)) (place_tests (located bs)) passes in
-    let same : requested_number answer ≡ requested_number (by (refusal (place_tests (located bs))) (request.Planned (first_plan layout (located bs))) request.Refused) =
-    ap requested_number (asked ∙ ap (λ (v : Verdict Refusal). by v (request.Planned (first_plan layout (located bs))) request.Refused) late) in (
+    let same : checked_number answer ≡ checked_number (by (refusal (place_tests (located bs))) (Ok (first_plan layout (located bs))) Err) =
+    ap checked_number (asked ∙ ap (λ (v : Verdict Refusal). by v (Ok (first_plan layout (located bs))) Err) late) in (
       λ e. rw inside (unfound t c n bs (ten_given layout (located bs) (is_within (located bs)) refl (sym same ∙ e))),
       λ u. same ∙ unfound_ten layout (located bs) (go (located bs) (is_within (located bs)) refl (λ e. found_readable t c n bs e (rw inside at u))),
     )

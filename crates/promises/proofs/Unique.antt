@@ -3,13 +3,13 @@ use mathlib.Core.Bool.{Bool}
 use mathlib.Core.List.{List}
 use mathlib.Core.Path.{◌≡◌, sym, ap, ap₂, ◌∙◌}
 use Prim.Native.Nat.{ℕ}
+use Rattle.std.specs.Prelude.{⊤, Result}
 use Rattle.cells.specs.Outcomes.{IsOctet, IsDataByte, IsReadByte, AreReadBytes, AreZeros}
 use Rattle.coding.specs.Outcomes.{IsCoded}
 use Rattle.cells.specs.declared.Mode.{Mode}
 use Rattle.cells.specs.declared.ReadBytes.{ReadBytes}
 use Rattle.edc.specs.Outcomes.{IsByteEntered, IsBytesEntered, IsEdc}
 use Rattle.format.specs.Outcomes.{Formats}
-use Rattle.calls.specs.declared.Checked.{Checked}
 use Rattle.calls.specs.Outcomes.{IsTested, IsCheckedNumber, IsRefusalNumber, IsImageLength, IsAreaLength, IsMarkByte, IsControlRecord, IsSectorNumber}
 use Rattle.layouts.specs.Outcomes.{IsLayout, IsLayoutOf, IsTrack, IsGapByte, IsLayoutNumber, IsTrackNumbers, IsTrackAndImage}
 use Rattle.layouts.specs.declared.Layout.{Layout}
@@ -40,7 +40,6 @@ use Rattle.read.specs.declared.Reading.{Reading}
 use Rattle.rewrite.specs.Outcomes.{CountsStores, Steps}
 use Rattle.request.specs.Outcomes.{Requests}
 use Rattle.rewrite.specs.declared.Plan.{Plan}
-use Rattle.rewrite.specs.declared.Stepped.{Stepped}
 use Rattle.promises.specs.Unique.{Unique}
 
 -- A relation that gives the outcome as a value.
@@ -127,7 +126,7 @@ find mode kinds image from to = by_value _
 pub refusal_number : (refusal : Refusal) → Unique (IsRefusalNumber refusal)
 refusal_number refusal = by_value _
 
-pub checked_number_lem : (answer : Checked) → Unique (IsCheckedNumber answer)
+pub checked_number_lem : {T : Type 0} (answer : Result T Refusal) → Unique (IsCheckedNumber answer)
 checked_number_lem answer = by_value _
 
 pub tested : (applies : Bool) (gives : Refusal) → Unique (IsTested applies gives)
@@ -175,7 +174,7 @@ track_and_image layout cylinder side length = by_value _
 -- ---- format
 
 pub format : (layout cylinder side : ℕ) (contents marks before : List ℕ)
-    → Unique (λ (o : Checked × List ℕ). Formats layout cylinder side contents marks before o.0 o.1)
+    → Unique (λ (o : Result ⊤ Refusal × List ℕ). Formats layout cylinder side contents marks before o.0 o.1)
 format layout cylinder side contents marks before x y p q = by_values _ _ x y (p.answers, p.leaves) (q.answers, q.leaves)
 
 -- ---- walk
@@ -212,7 +211,7 @@ carries_bytes answer = by_value _
 -- ---- read
 
 pub read : (layout cylinder side : ℕ) (image : List ℕ) (given : ℕ)
-    → Unique (λ (o : Reading × List ℕ). Reads layout cylinder side image given o.0 o.1)
+    → Unique (λ (o : Result Reading Refusal × List ℕ). Reads layout cylinder side image given o.0 o.1)
 read layout cylinder side image given x y p q = by_values _ _ x y (p.answers, p.leaves) (q.answers, q.leaves)
 
 -- ---- pick
@@ -232,7 +231,7 @@ pub stores_in_all : (plan : Plan) (bytes : ℕ) → Unique (CountsStores plan by
 stores_in_all plan bytes = by_value _
 
 pub step : (plan : Plan) (mark : ℕ) (contents before : List ℕ)
-    → Unique (λ (o : Stepped × List ℕ). Steps plan mark contents before o.0 o.1)
+    → Unique (λ (o : Result Plan Refusal × List ℕ). Steps plan mark contents before o.0 o.1)
 step plan mark contents before x y p q = by_values _ _ x y (p.answers, p.leaves) (q.answers, q.leaves)
 
 -- ---- request

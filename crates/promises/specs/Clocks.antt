@@ -1,10 +1,10 @@
 -- Doubtful clocks (02, Req 06): what the sum in a sector's record is, of every sector of every image; that no answer depends on it; and where it is 0.
-use Rattle.std.specs.Prelude.{Bool, true, false, List, [], ◌∷◌, ◌≡◌, ℕ, ◌+◌, ◌*◌, length, replicate}
+use Rattle.std.specs.Prelude.{Bool, true, false, List, [], ◌∷◌, ◌≡◌, ℕ, ◌+◌, ◌*◌, length, replicate, Result, Ok, IsOkAnd}
 use Rattle.answers.specs.declared.Answer.{Answer}
 use Rattle.answers.specs.declared.Answer.TheVariants as answers
 use Rattle.answers.specs.declared.Fault.TheVariants.{NoIdentifier, Doubled, NoBlock, PastEnd, OpenMark, WrongEdc, ForbiddenLetter}
 use Rattle.answers.specs.declared.Record.{Record}
-use Rattle.calls.specs.declared.Checked.TheVariants.{Passed}
+use Rattle.calls.specs.declared.Refusal.{Refusal}
 use Rattle.cells.specs.Cells.{cell, data_bytes, bytes_clocks, Bytes}
 use Rattle.format.specs.Order.{Numbered}
 use Rattle.format.specs.Outcomes.{Formats}
@@ -17,7 +17,6 @@ use Rattle.read.specs.Outcomes.{Reads}
 use Rattle.read.specs.Records.{Sector}
 use Rattle.read.specs.declared.Reading.{Reading}
 use Rattle.request.specs.Outcomes.{Requests}
-use Rattle.request.specs.declared.Requested.TheVariants as request
 use Rattle.rewrite.specs.declared.Plan.{Plan}
 use Rattle.station.specs.Outcomes.{GivesFormat, GivesRead}
 use Rattle.station.specs.Records.{numbered_at}
@@ -99,11 +98,11 @@ pub record AnswersWithoutClocks : Type 0 where
 
 pub record FaultlessClocks : Type 0 where
   -- A track that `format` wrote reads back with 0 in every record,
-  pub formatted : (layout cylinder side : ℕ) (contents marks before image : List ℕ) (answer : Reading) (area : List ℕ)
+  pub formatted : (layout cylinder side : ℕ) (contents marks before image : List ℕ) (answer : Result Reading Refusal) (area : List ℕ)
       → Bytes contents
-      → Formats layout cylinder side contents marks before Passed image
+      → Formats layout cylinder side contents marks before (Ok _) image
       → Reads layout cylinder side image (layout_of layout).area_bytes answer area
-      → answer.records.clocks ≡ replicate most_sectors 0
+      → IsOkAnd answer (λ reading. reading.records.clocks ≡ replicate most_sectors 0)
   -- also at the door.
   pub there : (layout cylinder side : ℕ) (contents marks before image : List ℕ) (number : ℕ) (area records counts : List ℕ) (s : ℕ)
       → Bytes contents
@@ -113,7 +112,7 @@ pub record FaultlessClocks : Type 0 where
       → clocks_in records s ≡ 0
   -- So does the sector of a rewrite that is finished, whatever the image was.
   pub rewritten : (layout cylinder side sector mark : ℕ) (contents image : List ℕ) (plan held : Plan) (now : List ℕ)
-      → Requests layout cylinder side sector mark contents image (request.Planned plan)
+      → Requests layout cylinder side sector mark contents image (Ok plan)
       → Ran mark contents plan image (number layout image plan) held now
       → Bytes contents
       → (sector_in (track_of layout cylinder side) now sector).known.clocks ≡ 0

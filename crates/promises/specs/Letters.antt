@@ -1,9 +1,8 @@
 -- Records with the letter F (02, Req 04; 004, 7.4.2.4.3): what the first byte of a control record decides, of every sector of every image.
-use Rattle.std.specs.Prelude.{List, ◌∷◌, ◌≡◌, ℕ, ◌-◌, get_or, replicate}
+use Rattle.std.specs.Prelude.{List, ◌∷◌, ◌≡◌, ℕ, ◌-◌, get_or, replicate, Ok}
 use Rattle.answers.specs.Answers.{answer_number, record_at}
 use Rattle.answers.specs.Letters.{letter_f}
 use Rattle.calls.specs.Refusals.{letter_d}
-use Rattle.calls.specs.declared.Checked.TheVariants.{Passed}
 use Rattle.format.specs.Order.{Numbered}
 use Rattle.layouts.specs.Layouts.{layout_of, slot_in}
 use Rattle.layouts.specs.declared.Track.{Track}
@@ -28,11 +27,10 @@ pub record LettersDecide : Type 0 where
   pub sectors : (t : Track) (image : List ℕ) (s : ℕ)
       → Lettered t.cylinder t.layout.size (answer_number (sector_in t image s).known.answer) (sector_in t image s).slot
   -- in the words of `read`,
-  pub read : (layout cylinder side : ℕ) (image : List ℕ) (given : ℕ) (answer : Reading) (after : List ℕ) (s : ℕ)
-      → Reads layout cylinder side image given answer after
-      → answer.verdict ≡ Passed
+  pub read : (layout cylinder side : ℕ) (image : List ℕ) (given : ℕ) (reading : Reading) (after : List ℕ) (s : ℕ)
+      → Reads layout cylinder side image given (Ok reading) after
       → Numbered (layout_of layout) s
-      → Lettered cylinder (layout_of layout).size (answer_number (record_at answer.records s).answer) (slot_in (layout_of layout).size s after)
+      → Lettered cylinder (layout_of layout).size (answer_number (record_at reading.records s).answer) (slot_in (layout_of layout).size s after)
   -- and at the door.
   pub door : (layout cylinder side : ℕ) (image : List ℕ) (given : ℕ) (area records counts : List ℕ) (s : ℕ)
       → GivesRead layout cylinder side image given 0 area records counts

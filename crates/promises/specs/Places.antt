@@ -1,5 +1,5 @@
 -- Where on the track (02, Req 01): the place that a sector's record has is the cell at which its data, control or open mark begins.
-use Rattle.std.specs.Prelude.{true, List, [], ◌∷◌, ◌⊎◌, ◌≡◌, ℕ, ◌*◌, ◌<◌, length, get_or}
+use Rattle.std.specs.Prelude.{true, List, [], ◌∷◌, ◌⊎◌, ◌≡◌, ℕ, ◌*◌, ◌<◌, length, get_or, Ok}
 use Rattle.answers.specs.Answers.{no_place}
 use Rattle.answers.specs.declared.Answer.{Answer}
 use Rattle.answers.specs.declared.Answer.TheVariants as answers
@@ -14,7 +14,6 @@ use Rattle.marks.specs.Marks.{stands}
 use Rattle.marks.specs.declared.Mark.{Mark}
 use Rattle.marks.specs.declared.Mark.TheVariants.{Data, Control, Open}
 use Rattle.request.specs.Outcomes.{Requests}
-use Rattle.request.specs.declared.Requested.TheVariants as request
 use Rattle.rewrite.specs.declared.Plan.{Plan}
 use Rattle.station.specs.Outcomes.{GivesRead, GivesRequest}
 use Rattle.walk.specs.declared.Block.TheVariants.{Beyond, Within}
@@ -55,13 +54,13 @@ pub record PlaceOfMark : Type 0 where
   pub records : OfEveryRecord Marked
   -- Where `locate` finds the sector's block the place is the one that it gives, and so it is that of a plan: in the image, and at the door.
   pub within : (layout cylinder side sector m : ℕ) (image : List ℕ)
-      → Locates layout cylinder side sector image (Single (Within m))
+      → Locates layout cylinder side sector image (Ok (Single (Within m)))
       → (sector_in (track_of layout cylinder side) image sector).known.place ≡ m
   pub beyond : (layout cylinder side sector m : ℕ) (image : List ℕ)
-      → Locates layout cylinder side sector image (Single (Beyond m))
+      → Locates layout cylinder side sector image (Ok (Single (Beyond m)))
       → (sector_in (track_of layout cylinder side) image sector).known.place ≡ m
   pub planned : (layout cylinder side sector mark : ℕ) (contents image : List ℕ) (plan : Plan)
-      → Requests layout cylinder side sector mark contents image (request.Planned plan)
+      → Requests layout cylinder side sector mark contents image (Ok plan)
       → (sector_in (track_of layout cylinder side) image sector).known.place ≡ plan.place
   pub requested : (layout cylinder side sector mark : ℕ) (contents image : List ℕ) (given : ℕ) (area records counts plan : List ℕ)
       → GivesRead layout cylinder side image given 0 area records counts

@@ -1,9 +1,8 @@
 -- What can be said of the record of every sector, said of the sectors of an image and wherever a read hands the record out: requests that give it a field
 -- say by this what the field holds.
-use Rattle.std.specs.Prelude.{List, ◌≡◌, ℕ}
+use Rattle.std.specs.Prelude.{List, ◌≡◌, ℕ, Ok}
 use Rattle.answers.specs.Answers.{record_at}
 use Rattle.answers.specs.declared.Record.{Record}
-use Rattle.calls.specs.declared.Checked.TheVariants.{Passed}
 use Rattle.format.specs.Order.{Numbered}
 use Rattle.layouts.specs.Layouts.{layout_of}
 use Rattle.layouts.specs.Tracks.{track_of}
@@ -19,11 +18,10 @@ pub record OfEveryRecord (Holds : Track → (image : List ℕ) → Record → Ty
   -- for every sector,
   pub sectors : (t : Track) (image : List ℕ) (s : ℕ) → Holds t image (sector_in t image s).known
   -- in the words of `read`,
-  pub read : (layout cylinder side : ℕ) (image : List ℕ) (given : ℕ) (answer : Reading) (after : List ℕ) (s : ℕ)
-      → Reads layout cylinder side image given answer after
-      → answer.verdict ≡ Passed
+  pub read : (layout cylinder side : ℕ) (image : List ℕ) (given : ℕ) (reading : Reading) (after : List ℕ) (s : ℕ)
+      → Reads layout cylinder side image given (Ok reading) after
       → Numbered (layout_of layout) s
-      → Holds (track_of layout cylinder side) image (record_at answer.records s)
+      → Holds (track_of layout cylinder side) image (record_at reading.records s)
   -- and at the door.
   pub door : (layout cylinder side : ℕ) (image : List ℕ) (given : ℕ) (area records counts : List ℕ) (s : ℕ)
       → GivesRead layout cylinder side image given 0 area records counts

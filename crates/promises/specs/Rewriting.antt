@@ -1,11 +1,12 @@
 -- Demand 3: a rewrite is a fixed list of single-byte stores, and it may be cut after any of them. Said here of a request that is accepted: what
 -- its steps do one after the other, how the image reads wherever they are cut, and that starting again ends as if nothing had been cut.
-use Rattle.std.specs.Prelude.{List, ◌≡◌, ℕ, suc, ◌-◌, ◌*◌, ◌<◌, ◌≤◌, length, get_or, set}
+use Rattle.std.specs.Prelude.{List, ◌≡◌, ℕ, suc, ◌-◌, ◌*◌, ◌<◌, ◌≤◌, length, get_or, set, Result, Ok, Err}
 use Rattle.std.proofs.lemmas.List.Edits.{sets}
 use Rattle.cells.specs.Cells.{Bytes}
 use Rattle.format.specs.Order.{Numbered}
 use Rattle.format.specs.Outcomes.{Formats}
-use Rattle.calls.specs.declared.Checked.TheVariants.{Passed}
+use Rattle.calls.specs.declared.Refusal.{Refusal}
+use Rattle.calls.specs.Refusals.{checked_number}
 use Rattle.layouts.specs.Layouts.{layout_of}
 use Rattle.layouts.specs.Tracks.{track_of}
 use Rattle.marks.specs.Marks.{mark_of}
@@ -14,7 +15,7 @@ use Rattle.read.specs.declared.Reading.{Reading}
 use Rattle.answers.specs.declared.Record.{Record}
 use Rattle.request.specs.Refusals.{contents_tests}
 use Rattle.rewrite.specs.Stores.{no_store, stores, store_count}
-use Rattle.rewrite.specs.Outcomes.{Steps, stepped_number}
+use Rattle.rewrite.specs.Outcomes.{Steps}
 use Rattle.request.specs.Outcomes.{Requests}
 use Rattle.verdicts.specs.Tests.{passed, refusal}
 use Rattle.walk.specs.Events.{bads, foreigns}
@@ -22,23 +23,20 @@ use Rattle.walk.specs.Outcomes.{met}
 use Rattle.promises.specs.Cuts.{cut}
 use Rattle.promises.specs.Sectors.{sector_in, under_way, reads_back, ReadsSo}
 use Rattle.rewrite.specs.declared.Plan.{Plan}
-use Rattle.request.specs.declared.Requested.TheVariants as request
-use Rattle.rewrite.specs.declared.Stepped.{Stepped}
-use Rattle.rewrite.specs.declared.Stepped.TheVariants as step
 use Rattle.rewrite.specs.declared.Store.{Store}
 
 -- ---- the words
 
 -- The plan in hand after a step: the one that it handed back; a refused step leaves the plan as it was.
-abbrev pub in_hand : Plan → Stepped → Plan
-in_hand plan (step.Made next) = next
-in_hand plan (step.Refused f) = plan
+abbrev pub in_hand : Plan → Result Plan Refusal → Plan
+in_hand plan (Ok next) = next
+in_hand plan (Err f) = plan
 
 -- j calls of `step` one after the other, the first with this plan on this image. Each is handed the plan last handed back, the same mark and
 -- contents, and the image as the one before left it. At the end a plan is in hand, and an image is left.
 pub data Ran (mark : ℕ) (contents : List ℕ) (plan : Plan) (image : List ℕ) : ℕ → Plan → List ℕ → Type 0 where
   begun : Ran mark contents plan image 0 plan image
-  went : (j : ℕ) (held : Plan) (now : List ℕ) (answer : Stepped) (after : List ℕ) → Ran mark contents plan image j held now
+  went : (j : ℕ) (held : Plan) (now : List ℕ) (answer : Result Plan Refusal) (after : List ℕ) → Ran mark contents plan image j held now
       → Steps held mark contents now answer after → Ran mark contents plan image (suc j) (in_hand held answer) after
 
 -- A mark and contents that pass 5, 6 and 7.
@@ -72,25 +70,25 @@ module _ (layout mark : ℕ) (contents image : List ℕ) (plan : Plan) where
     pub only : (j : ℕ) (held : Plan) (now : List ℕ) → j ≤ number layout image plan → Ran mark contents plan image j held now
         → (held ≡ plan_at plan j) × (now ≡ after j)
     -- None of the steps is refused, the last included: the step after j others makes the next store and counts it.
-    pub makes : (j : ℕ) (held : Plan) (now : List ℕ) (answer : Stepped) (next : List ℕ) → j < number layout image plan
+    pub makes : (j : ℕ) (held : Plan) (now : List ℕ) (answer : Result Plan Refusal) (next : List ℕ) → j < number layout image plan
         → Ran mark contents plan image j held now → Steps held mark contents now answer next
-        → (answer ≡ step.Made (plan_at plan (suc j))) × (next ≡ after (suc j))
+        → (answer ≡ Ok (plan_at plan (suc j))) × (next ≡ after (suc j))
     -- It changes at most the byte that it stores.
-    pub changes : (j : ℕ) (held : Plan) (now : List ℕ) (answer : Stepped) (next : List ℕ) → j < number layout image plan
+    pub changes : (j : ℕ) (held : Plan) (now : List ℕ) (answer : Result Plan Refusal) (next : List ℕ) → j < number layout image plan
         → Ran mark contents plan image j held now → Steps held mark contents now answer next
         → (length next ≡ length now) × ((i : ℕ) → (i ≡ (get_or list j no_store).byte → ⊥) → get_or next i 0 ≡ get_or now i 0)
     -- The step after the last is refused 12, and changes nothing.
-    pub refuses : (held : Plan) (now : List ℕ) (answer : Stepped) (next : List ℕ)
+    pub refuses : (held : Plan) (now : List ℕ) (answer : Result Plan Refusal) (next : List ℕ)
         → Ran mark contents plan image (number layout image plan) held now → Steps held mark contents now answer next
-        → (stepped_number answer ≡ 12) × (next ≡ now)
+        → (checked_number answer ≡ 12) × (next ≡ now)
 
 -- ---- a cut
 
 -- What `read` answers, with another record for one sector.
-abbrev pub with_record : Reading → (sector : ℕ) → Record → Reading
-with_record reading sector x =
+abbrev pub with_record : Result Reading Refusal → (sector : ℕ) → Record → Result Reading Refusal
+with_record (Ok reading) sector x =
+    Ok (
     record {
-      verdict = reading.verdict;
       sectors = reading.sectors;
       records =
           record {
@@ -101,6 +99,8 @@ with_record reading sector x =
       bad = reading.bad;
       foreign = reading.foreign;
     }
+    )
+with_record (Err f) sector x = Err f
 
 -- A rewrite was cut after j stores, and left the image `now`.
 pub record Survives (layout cylinder side sector mark : ℕ) (contents image : List ℕ) (plan : Plan) (j : ℕ) (now : List ℕ) : Type 0 where
@@ -120,7 +120,7 @@ pub record Survives (layout cylinder side sector mark : ℕ) (contents image : L
   -- Its mark is where it was, before, during and after (02, Req 01).
   pub placed : (sector_in (track_of layout cylinder side) now sector).known.place ≡ (sector_in (track_of layout cylinder side) image sector).known.place
   -- In the words of `read`: it answers what it answers of the first image, but for this one record, and leaves the same, but for this one slot.
-  pub reads : (before answer : Reading) (area after : List ℕ)
+  pub reads : (before answer : Result Reading Refusal) (area after : List ℕ)
       → Reads layout cylinder side image (layout_of layout).area_bytes before area
       → Reads layout cylinder side now (layout_of layout).area_bytes answer after
       → (answer ≡ with_record before sector (sector_in (track_of layout cylinder side) now sector).known)
@@ -130,10 +130,10 @@ pub record Survives (layout cylinder side sector mark : ℕ) (contents image : L
 -- exactly if they pass 5, 6 and 7, then with the plan that it gets on the first image too; and all the steps of an accepted one end at the image
 -- that they, uncut, make of the first image.
 pub record StartsAgain (layout cylinder side sector : ℕ) (plan : Plan) (image now : List ℕ) (mark : ℕ) (contents : List ℕ) : Type 0 where
-  pub accepted : Fit layout cylinder mark contents → Requests layout cylinder side sector mark contents now (request.Planned plan)
-  pub only : (new : Plan) → Requests layout cylinder side sector mark contents now (request.Planned new)
-      → Fit layout cylinder mark contents × (new ≡ plan) × Requests layout cylinder side sector mark contents image (request.Planned plan)
-  pub ends : (new held other : Plan) (end whole : List ℕ) → Requests layout cylinder side sector mark contents now (request.Planned new)
+  pub accepted : Fit layout cylinder mark contents → Requests layout cylinder side sector mark contents now (Ok plan)
+  pub only : (new : Plan) → Requests layout cylinder side sector mark contents now (Ok new)
+      → Fit layout cylinder mark contents × (new ≡ plan) × Requests layout cylinder side sector mark contents image (Ok plan)
+  pub ends : (new held other : Plan) (end whole : List ℕ) → Requests layout cylinder side sector mark contents now (Ok new)
       → Ran mark contents new now (number layout now new) held end
       → Ran mark contents plan image (number layout image plan) other whole → end ≡ whole
 
@@ -143,13 +143,13 @@ pub record StartsAgain (layout cylinder side sector : ℕ) (plan : Plan) (image 
 -- is their type in the code; only the sector's new slot and its sum ask for it.)
 pub record Demand3 : Type 0 where
   pub steps : (layout cylinder side sector mark : ℕ) (contents image : List ℕ) (plan : Plan)
-      → Requests layout cylinder side sector mark contents image (request.Planned plan) → Stepwise layout mark contents image plan
+      → Requests layout cylinder side sector mark contents image (Ok plan) → Stepwise layout mark contents image plan
   pub survives : (layout cylinder side sector mark : ℕ) (contents image : List ℕ) (plan : Plan)
-      → Requests layout cylinder side sector mark contents image (request.Planned plan)
+      → Requests layout cylinder side sector mark contents image (Ok plan)
       → (j : ℕ) (held : Plan) (now : List ℕ) → j ≤ number layout image plan → Ran mark contents plan image j held now → Bytes contents
       → Survives layout cylinder side sector mark contents image plan j now
   pub again : (layout cylinder side sector mark : ℕ) (contents image : List ℕ) (plan : Plan)
-      → Requests layout cylinder side sector mark contents image (request.Planned plan)
+      → Requests layout cylinder side sector mark contents image (Ok plan)
       → (j : ℕ) (held : Plan) (now : List ℕ) → j ≤ number layout image plan → Ran mark contents plan image j held now
       → (newMark : ℕ) (newContents : List ℕ) → StartsAgain layout cylinder side sector plan image now newMark newContents
 
@@ -158,7 +158,7 @@ pub record Demand3 : Type 0 where
 -- A request is accepted, with some plan.
 pub record Accepted (layout cylinder side sector mark : ℕ) (contents image : List ℕ) : Type 0 where
   pub plan : Plan
-  pub asked : Requests layout cylinder side sector mark contents image (request.Planned plan)
+  pub asked : Requests layout cylinder side sector mark contents image (Ok plan)
 
 -- Demand 3 speaks of something: on a track that `format` wrote, in every layout, a request for any of its sectors with a mark and contents that pass
 -- 5, 6 and 7 is accepted.
@@ -166,7 +166,7 @@ abbrev pub FormattedCanBeRewritten : Type 0
 FormattedCanBeRewritten =
     (layout cylinder side : ℕ) (written marks before image : List ℕ)
     → Bytes written
-    → Formats layout cylinder side written marks before Passed image
+    → Formats layout cylinder side written marks before (Ok _) image
     → (sector mark : ℕ) (contents : List ℕ) → Numbered (layout_of layout) sector → Fit layout cylinder mark contents
     → Accepted layout cylinder side sector mark contents image
 
@@ -176,8 +176,8 @@ FormattedCanBeRewritten =
 -- code has one store, so that no wrong program of its shape does this, and no edit can stand for it.)
 abbrev pub NotAllAtOnce : Type 0
 NotAllAtOnce =
-    (layout cylinder side sector mark : ℕ) (contents image : List ℕ) (plan : Plan) (answer : Stepped)
-    → Requests layout cylinder side sector mark contents image (request.Planned plan)
+    (layout cylinder side sector mark : ℕ) (contents image : List ℕ) (plan : Plan) (answer : Result Plan Refusal)
+    → Requests layout cylinder side sector mark contents image (Ok plan)
     → Bytes contents
     → Steps plan mark contents image answer (after layout mark contents image plan (number layout image plan))
     → ⊥

@@ -1,13 +1,13 @@
 -- The round trip: a formatted track reads back as the very sectors and marks that went in. The statement is over a layout's constants and
 -- over any order of the sectors; natural order is one of them.
-use Rattle.std.specs.Prelude.{cond, List, [], ◌∷◌, ◌≡◌, ℕ, suc, ◌+◌, ◌-◌, ◌*◌, ◌≤◌, eqb, get_or, length}
+use Rattle.std.specs.Prelude.{cond, List, [], ◌∷◌, ◌≡◌, ℕ, suc, ◌+◌, ◌-◌, ◌*◌, ◌≤◌, eqb, get_or, length, Result, Ok}
 use Rattle.cells.specs.Cells.{Byte, Bytes}
 use Rattle.format.specs.Order.{Numbered}
 use Rattle.format.specs.Outcomes.{Formats}
 use Rattle.format.specs.Places.{block_place}
 use Rattle.layouts.specs.Layouts.{Every, layout_of, slot_in}
 use Rattle.layouts.specs.Tracks.{track_of}
-use Rattle.calls.specs.declared.Checked.TheVariants.{Passed}
+use Rattle.calls.specs.declared.Refusal.{Refusal}
 use Rattle.layouts.specs.declared.Layout.{Layout}
 use Rattle.layouts.specs.declared.Track.{Track}
 use Rattle.answers.specs.Answers.{answer_number, record_at}
@@ -74,14 +74,15 @@ pub record ReadsBack (t : Track) (contents marks order image : List ℕ) : Type 
 -- What `read` hands back of a formatted track: it is not refused, no identifier is bad or foreign, and of each sector the answer's number and
 -- the slot in the area are those of what went in. The order is the natural one: sector s stands at position s - 1, and there its place is. No clock cell
 -- of its block is doubtful.
-pub record HandsBack (t : Track) (contents marks : List ℕ) (answer : Reading) (area : List ℕ) : Type 0 where
-  pub accepted : answer.verdict ≡ Passed
-  pub counted : answer.sectors ≡ t.layout.sectors
-  pub bad : answer.bad ≡ 0
-  pub foreign : answer.foreign ≡ 0
-  pub answers : (s : ℕ) → Numbered t.layout s → answer_number (record_at answer.records s).answer ≡ (went_in t contents marks s).number
-  pub places : (s : ℕ) → Numbered t.layout s → (record_at answer.records s).place ≡ 8 * block_place t.layout (s - 1)
-  pub clocks : (s : ℕ) → Numbered t.layout s → (record_at answer.records s).clocks ≡ 0
+pub record HandsBack (t : Track) (contents marks : List ℕ) (answer : Result Reading Refusal) (area : List ℕ) : Type 0 where
+  pub reading : Reading
+  pub accepted : answer ≡ Ok reading
+  pub counted : reading.sectors ≡ t.layout.sectors
+  pub bad : reading.bad ≡ 0
+  pub foreign : reading.foreign ≡ 0
+  pub answers : (s : ℕ) → Numbered t.layout s → answer_number (record_at reading.records s).answer ≡ (went_in t contents marks s).number
+  pub places : (s : ℕ) → Numbered t.layout s → (record_at reading.records s).place ≡ 8 * block_place t.layout (s - 1)
+  pub clocks : (s : ℕ) → Numbered t.layout s → (record_at reading.records s).clocks ≡ 0
   pub slots : (s : ℕ) → Numbered t.layout s → slot_in t.layout.size s area ≡ (went_in t contents marks s).bytes
   pub whole : length area ≡ t.layout.sectors * t.layout.size
 
@@ -89,8 +90,8 @@ pub record HandsBack (t : Track) (contents marks : List ℕ) (answer : Reading) 
 -- hands back the very sectors and marks. (Data are bytes, as every area's contents are.)
 abbrev pub ReadsBackAsWritten : Type 0
 ReadsBackAsWritten =
-    (layout cylinder side : ℕ) (contents marks before image : List ℕ) (answer : Reading) (area : List ℕ)
+    (layout cylinder side : ℕ) (contents marks before image : List ℕ) (answer : Result Reading Refusal) (area : List ℕ)
     → Bytes contents
-    → Formats layout cylinder side contents marks before Passed image
+    → Formats layout cylinder side contents marks before (Ok _) image
     → Reads layout cylinder side image (layout_of layout).area_bytes answer area
     → HandsBack (track_of layout cylinder side) contents marks answer area

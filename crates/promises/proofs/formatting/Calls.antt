@@ -10,12 +10,13 @@ use borrow.Author.Rules.{rules}
 use borrow.Author.Tests.{eq-eqb, ne_eqb, le-ltb}
 use lib.ListN.{length, get_or, drop}
 use lib.Seq.{get_or-take, get_or-drop}
+use Rattle.std.specs.Prelude.{Result, Ok}
 use Rattle.cells.specs.Cells.{cell, Bytes}
 use Rattle.format.specs.Order.{Numbered, formatted}
 use Rattle.format.specs.Outcomes.{Formats}
 use Rattle.format.specs.Places.{block_place}
 use Rattle.format.specs.Refusals.{some, form_tests, content_tests, format_tests}
-use Rattle.calls.specs.declared.Checked.TheVariants.{Passed}
+use Rattle.calls.specs.declared.Refusal.{Refusal}
 use Rattle.calls.proofs.Refusals.{told_passed, or_left, or_right}
 use Rattle.format.proofs.Accepted.{Accepted, accepted}
 use Rattle.format.proofs.Judged.{passed_by}
@@ -175,18 +176,18 @@ module _ (layout cylinder side : ℕ) (contents marks : List ℕ) (given : ℕ) 
       reading_passes layout cylinder side _ _ track_passed (omega (arith, whole, sums, r.some)) (omega (arith, whole, sums, r.short)) refl
 
 -- What format wrote, as read takes it: it reads back, and is not refused.
-pub record Taken (layout cylinder side : ℕ) (contents marks image : List ℕ) (answer : Reading) (area : List ℕ) : Type 0 where
+pub record Taken (layout cylinder side : ℕ) (contents marks image : List ℕ) (answer : Result Reading Refusal) (area : List ℕ) : Type 0 where
   pub back : ReadsBack (track_of layout cylinder side) contents marks (numbers (layout_of layout).sectors 1) image
-  pub told : answer ≡ reading (track_of layout cylinder side) image
+  pub told : answer ≡ Ok (reading (track_of layout cylinder side) image)
   pub left : area ≡ area_of (track_of layout cylinder side) (cell image) (8 * length image) (met (track_of layout cylinder side) image)
 
-pub written_taken : (layout cylinder side : ℕ) (contents marks before image : List ℕ) (answer : Reading) (area : List ℕ) → Bytes contents
-    → Formats layout cylinder side contents marks before Passed image → Reads layout cylinder side image (layout_of layout).area_bytes answer area
+pub written_taken : (layout cylinder side : ℕ) (contents marks before image : List ℕ) (answer : Result Reading Refusal) (area : List ℕ) → Bytes contents
+    → Formats layout cylinder side contents marks before (Ok _) image → Reads layout cylinder side image (layout_of layout).area_bytes answer area
     → Taken layout cylinder side contents marks image answer area
 unfolding read_answer read_area by
 written_taken layout cylinder side contents marks before image answer area all formats reads =
     let t = track_of layout cylinder side in
-    let passes = told_passed (refusal (format_tests layout cylinder side contents marks (length before))) Passed formats.answers refl in
+    let passes = told_passed (refusal (format_tests layout cylinder side contents marks (length before))) formats.answers in
     let same : image ≡ written t contents marks = formats.leaves ∙ rw passes in
     let trip = accepted_trip layout cylinder side contents marks (length before) all passes in
     let read = accepted_read layout cylinder side contents marks (length before) all passes in
@@ -201,26 +202,23 @@ pub format_then_read : ReadsBackAsWritten
 format_then_read layout cylinder side contents marks before image answer area all formats reads =
     let t = track_of layout cylinder side in
     let taken = written_taken layout cylinder side contents marks before image answer area all formats reads in
-    let told = taken.told in
     let left = taken.left in
     let back-so = taken.back in
     record {
-      accepted = ap (λ (r : Reading). r.verdict) told;
-      counted = ap (λ (r : Reading). r.sectors) told;
-      bad = ap (λ (r : Reading). r.bad) told ∙ back-so.bad;
-      foreign = ap (λ (r : Reading). r.foreign) told ∙ back-so.foreign;
+      reading = reading t image;
+      accepted = taken.told;
+      counted = refl;
+      bad = back-so.bad;
+      foreign = back-so.foreign;
       answers = λ s h.
-          ap (λ (r : Reading). answer_number (record_at r.records s).answer) told
-          ∙ ap (λ (r : Record). answer_number r.answer) (record_read t image s h.0 h.1 (modest layout).1)
+          ap (λ (r : Record). answer_number r.answer) (record_read t image s h.0 h.1 (modest layout).1)
           ∙ (back-so.sectors s h).answers;
       places = λ s h.
-          ap (λ (r : Reading). (record_at r.records s).place) told
-          ∙ ap (λ (r : Record). r.place) (record_read t image s h.0 h.1 (modest layout).1)
+          ap (λ (r : Record). r.place) (record_read t image s h.0 h.1 (modest layout).1)
           ∙ back-so.places s h
           ∙ ap (λ (i : ℕ). 8 * block_place (layout_of layout) i) (natural_position s (layout_of layout).sectors 1 h.0 (omega (arith, h.1)));
       clocks = λ s h.
-          ap (λ (r : Reading). (record_at r.records s).clocks) told
-          ∙ ap (λ (r : Record). r.clocks) (record_read t image s h.0 h.1 (modest layout).1)
+          ap (λ (r : Record). r.clocks) (record_read t image s h.0 h.1 (modest layout).1)
           ∙ back-so.clocks s h;
       slots = λ s h. slot_read t image s h.0 h.1 (modest layout).2 area left ∙ (back-so.sectors s h).holds;
       whole = length_read t image area (modest layout).2 left;

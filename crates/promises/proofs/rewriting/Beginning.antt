@@ -6,7 +6,6 @@ use native.Mathlib.Omega.{arith}
 use borrow.Author.Tests.{ne_eqb, le-ltb}
 use lib.ListN.{length}
 use Rattle.format.specs.Refusals.{format_tests}
-use Rattle.calls.specs.declared.Checked.TheVariants.{Passed}
 use Rattle.calls.proofs.Refusals.{told_passed}
 use Rattle.format.proofs.Judged.{passed_by}
 use Rattle.layouts.specs.Layouts.{layout_of}
@@ -35,7 +34,7 @@ pub formatted_can_be_rewritten : FormattedCanBeRewritten
 unfolding by
 formatted_can_be_rewritten layout cylinder side contents marks before image small formats sector mark new numbered fit =
     let t = track_of layout cylinder side in
-    let passes = told_passed (refusal (format_tests layout cylinder side contents marks (length before))) Passed formats.answers refl in
+    let passes = told_passed (refusal (format_tests layout cylinder side contents marks (length before))) formats.answers in
     let same : image ≡ written t contents marks = formats.leaves ∙ rw passes in
     let place = accepted_place layout cylinder side contents marks (length before) small passes sector numbered in
     let read = accepted_read layout cylinder side contents marks (length before) small passes in

@@ -4,6 +4,7 @@ use mathlib.Core.List.{List, [], ◌∷◌}
 use Prim.Native.Nat.{ℕ, ◌*◌, ◌≤◌}
 use native.Mathlib.Omega.{arith}
 use lib.ListN.{length}
+use Rattle.std.specs.Prelude.{Ok}
 use Rattle.cells.specs.Cells.{cell, Bytes}
 use Rattle.layouts.specs.Layouts.{layout_of}
 use Rattle.layouts.specs.Tracks.{track_of}
@@ -13,7 +14,6 @@ use Rattle.request.specs.Outcomes.{Requests}
 use Rattle.promises.specs.Cuts.{cut, finished}
 use Rattle.promises.specs.Rewriting.{Fit, Ran, number, Stepwise, Survives, StartsAgain, Demand3}
 use Rattle.rewrite.specs.declared.Plan.{Plan}
-use Rattle.request.specs.declared.Requested.TheVariants as request
 use Rattle.walk.specs.declared.Block.TheVariants.{Within}
 use Rattle.promises.proofs.rewriting.Answers.{found_again}
 use Rattle.rewrite.proofs.Listed.{stores_count}
@@ -61,7 +61,7 @@ module _ (layout cylinder side sector mark : ℕ) (contents image : List ℕ) (m
     plan = record { layout = layout; place = m; made = 0 }
 
     -- A request that is accepted on a cut gets the plan of the first image, and its mark and contents fit.
-    same_plan : (new : Plan) → Requests layout cylinder side sector newMark newContents now (request.Planned new)
+    same_plan : (new : Plan) → Requests layout cylinder side sector newMark newContents now (Ok new)
         → Fit layout cylinder newMark newContents × (new ≡ plan)
     same_plan new asked =
         let g = granted layout cylinder side sector now newMark newContents new asked in
@@ -94,7 +94,7 @@ module _ (layout cylinder side sector mark : ℕ) (contents image : List ℕ) (m
 -- ---- of every accepted request
 
 module _ (layout cylinder side sector mark : ℕ) (contents image : List ℕ) (plan : Plan)
-    (asked : Requests layout cylinder side sector mark contents image (request.Planned plan)) where
+    (asked : Requests layout cylinder side sector mark contents image (Ok plan)) where
   known : Granted layout cylinder side sector image mark contents plan
   known = granted layout cylinder side sector image mark contents plan asked
 

@@ -6,6 +6,7 @@ use mathlib.Core.List.{List, [], ◌∷◌}
 use Prim.Native.Nat.{ℕ, ◌%◌, ◌≤◌}
 use borrow.Author.Tests.{eq-eqb, eqb-true, not-false}
 use lib.ListN.{length}
+use Rattle.std.specs.Prelude.{Ok, Err}
 use Rattle.layouts.specs.Layouts.{highest, layout_of}
 use Rattle.calls.specs.Refusals.{image_test}
 use Rattle.layouts.specs.Refusals.{reading_tests, track_tests}
@@ -16,7 +17,6 @@ use Rattle.calls.proofs.Refusals.{sector_known}
 use Rattle.request.specs.Refusals.{is_within, cell_of, contents_tests, call_tests, place_tests, request_tests}
 use Rattle.request.specs.Outcomes.{Requests, first_plan}
 use Rattle.rewrite.specs.declared.Plan.{Plan}
-use Rattle.request.specs.declared.Requested.TheVariants as request
 use Rattle.verdicts.specs.Tests.{Verdict, passed, refused, refusal, by}
 use Rattle.verdicts.proofs.Tests.{clash, append_passed, passed_both, first_passed}
 use Rattle.walk.specs.Events.{blocks}
@@ -86,12 +86,12 @@ module _ (layout cylinder side sector : ℕ) (image : List ℕ) where
       pub fits : Fit layout cylinder mark contents
       pub noted : plan ≡ record { layout = layout; place = plan.place; made = 0 }
 
-    pub granted : (plan : Plan) → Requests layout cylinder side sector mark contents image (request.Planned plan) → Granted plan
+    pub granted : (plan : Plan) → Requests layout cylinder side sector mark contents image (Ok plan) → Granted plan
     unfolding by
     granted plan asked = go (refusal (request_tests layout cylinder side sector mark contents image)) refl asked
       where
         go : (v : Verdict Refusal) → refusal (request_tests layout cylinder side sector mark contents image) ≡ v
-            → request.Planned plan ≡ by v (request.Planned (first_plan layout (found layout cylinder side sector image))) request.Refused → Granted plan
+            → Ok plan ≡ by v (Ok (first_plan layout (found layout cylinder side sector image))) Err → Granted plan
         go passed e r =
             let p : plan ≡ first_plan layout (found layout cylinder side sector image) = cc in
             rw p (record { site = (passed_sited e).0; fits = (passed_sited e).1; noted = refl })
@@ -99,7 +99,7 @@ module _ (layout cylinder side sector : ℕ) (image : List ℕ) where
 
     -- A request with a mark and contents that fit is accepted where the sector's block is on a byte boundary.
     pub accepts : (m : ℕ) → Sited m → Fit layout cylinder mark contents
-        → Requests layout cylinder side sector mark contents image (request.Planned (record { layout = layout; place = m; made = 0 }))
+        → Requests layout cylinder side sector mark contents image (Ok (record { layout = layout; place = m; made = 0 }))
     unfolding request_tests call_tests place_tests refusal located is_within cell_of by
     accepts m s fit =
         let late : refusal (place_tests (found layout cylinder side sector image)) ≡ passed = rw (s.alone, eq-eqb (m % 8) 0 s.boundary) in

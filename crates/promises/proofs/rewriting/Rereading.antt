@@ -7,6 +7,8 @@ use native.Mathlib.Omega.{arith}
 use borrow.Author.Tests.{eq-eqb}
 use lib.ListN.{length, set}
 use lib.Seq.{sets}
+use Rattle.calls.specs.declared.Refusal.{Refusal}
+use Rattle.std.specs.Prelude.{Result}
 use Rattle.cells.specs.Cells.{cell}
 use Rattle.layouts.specs.Layouts.{layout_of, most_sectors}
 use Rattle.calls.specs.Refusals.{area_test}
@@ -68,7 +70,7 @@ module _ (layout cylinder side sector : ℕ) (image now : List ℕ) (m : ℕ) (S
       (λ x. length_sector t (cell now) (8 * length now) (modest layout).2 (met t now) x)
       (λ x o. ap (λ (y : Sector). y.slot) (alike x (λ q. o (sym q)))) l.sectors 1 S.low (omega (arith, S.numbered))
 
-  pub read_so : (before answer : Reading) (area after : List ℕ) → Reads layout cylinder side image l.area_bytes before area
+  pub read_so : (before answer : Result Reading Refusal) (area after : List ℕ) → Reads layout cylinder side image l.area_bytes before area
       → Reads layout cylinder side now l.area_bytes answer after
       → (answer ≡ with_record before sector (sector_in t now sector).known)
       × (after ≡ sets area ((sector - 1) * l.size) (sector_in t now sector).slot)

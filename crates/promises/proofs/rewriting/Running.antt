@@ -10,10 +10,11 @@ use borrow.Author.Tests.{eq-eqb, eqb-true, le-leb, lt-leb, le-ltb, not-false}
 use lib.Dec.{eqb}
 use lib.ListN.{length, get_or, length-set}
 use lib.Seq.{get_or-set_other}
+use Rattle.std.specs.Prelude.{Result, Ok}
 use Rattle.cells.specs.Cells.{cell}
 use Rattle.cells.proofs.Joined.{cell_lt}
 use Rattle.layouts.specs.Layouts.{highest, layout_of, block_cells}
-use Rattle.calls.specs.Refusals.{image_test, area_test, mark_test, control_test}
+use Rattle.calls.specs.Refusals.{image_test, area_test, mark_test, control_test, checked_number}
 use Rattle.layouts.specs.Refusals.{number_test}
 use Rattle.layouts.specs.Tracks.{track_of}
 use Rattle.layouts.specs.declared.Layout.{Layout}
@@ -29,12 +30,10 @@ use Rattle.walk.specs.Outcomes.{met}
 use Rattle.rewrite.specs.Stores.{stored, no_store, block_end, stores, store_count}
 use Rattle.rewrite.specs.Refusals.{holds_block, block_test, finished_test, plan_tests, step_tests}
 use Rattle.request.specs.Refusals.{contents_tests}
-use Rattle.rewrite.specs.Outcomes.{Steps, stepped_number}
+use Rattle.rewrite.specs.Outcomes.{Steps}
 use Rattle.promises.specs.Cuts.{cut}
 use Rattle.promises.specs.Rewriting.{Fit, in_hand, Ran, begun, went, plan_at, Stepwise}
 use Rattle.rewrite.specs.declared.Plan.{Plan}
-use Rattle.rewrite.specs.declared.Stepped.{Stepped}
-use Rattle.rewrite.specs.declared.Stepped.TheVariants as step
 use Rattle.promises.proofs.rewriting.Searches.{some_there}
 use Rattle.promises.proofs.rewriting.Claims.{Claims, blocks_claims, Placed, claimed_placed}
 use Rattle.promises.proofs.rewriting.Rewritten.{Rewritten, untouched}
@@ -151,14 +150,14 @@ module _ (layout cylinder side sector mark : ℕ) (contents image : List ℕ) (m
       rw (stores_cut l image m (mark_of mark) contents full j (omega arith) (mark_of mark) contents)
       (sym (cut_step l image m (mark_of mark) contents full j h))
 
-  made : (j : ℕ) (answer : Stepped) (next : List ℕ) → j < number → Steps (at j) mark contents (now j) answer next
-      → (answer ≡ step.Made (at (suc j))) × (next ≡ now (suc j))
+  made : (j : ℕ) (answer : Result Plan Refusal) (next : List ℕ) → j < number → Steps (at j) mark contents (now j) answer next
+      → (answer ≡ Ok (at (suc j))) × (next ≡ now (suc j))
   unfolding by
   made j answer next h s =
       let p = accepts j h in
       ((rw (p, add-one j) at s.answers), (rw p at s.leaves) ∙ next_made j h)
 
-  steps_so : (j : ℕ) → j < number → Steps (at j) mark contents (now j) (step.Made (at (suc j))) (now (suc j))
+  steps_so : (j : ℕ) → j < number → Steps (at j) mark contents (now j) (Ok (at (suc j))) (now (suc j))
   unfolding by
   steps_so j h = record { answers = rw (accepts j h, add-one j); leaves = rw (accepts j h) (sym (next_made j h)) }
 
@@ -167,7 +166,7 @@ module _ (layout cylinder side sector mark : ℕ) (contents image : List ℕ) (m
   -- So they go, and not otherwise.
   runs : (j : ℕ) → j ≤ number → Ran mark contents plan image j (at j) (now j)
   runs zero h = rw (cut_none l image m (mark_of mark) contents) begun
-  runs (suc j) h = went j (at j) (now j) (step.Made (at (suc j))) (now (suc j)) (runs j (omega arith)) (steps_so j h)
+  runs (suc j) h = went j (at j) (now j) (Ok (at (suc j))) (now (suc j)) (runs j (omega arith)) (steps_so j h)
 
   pub only : (j : ℕ) (held : Plan) (left : List ℕ) → j ≤ number → Ran mark contents plan image j held left → (held ≡ at j) × (left ≡ now j)
   only j held left h begun = (refl, sym (cut_none l image m (mark_of mark) contents))
@@ -180,7 +179,7 @@ module _ (layout cylinder side sector mark : ℕ) (contents image : List ℕ) (m
           (rw done.0, done.1)
 
   -- A step of the run, in the images of the list.
-  in_list : (j : ℕ) (held : Plan) (left : List ℕ) (answer : Stepped) (next : List ℕ) → j ≤ number → Ran mark contents plan image j held left
+  in_list : (j : ℕ) (held : Plan) (left : List ℕ) (answer : Result Plan Refusal) (next : List ℕ) → j ≤ number → Ran mark contents plan image j held left
       → Steps held mark contents left answer next → Steps (at j) mark contents (now j) answer next
   in_list j held left answer next h r s = let e = only j held left h r in rw (e.0, e.1) at s
 
@@ -204,5 +203,5 @@ module _ (layout cylinder side sector mark : ℕ) (contents image : List ℕ) (m
             (changed j next h (made j answer next h (in_list j held left answer next (omega arith) r s)).1);
         refuses = λ held left answer next r s.
             let t = in_list number held left answer next (omega arith) r s in
-            (ap stepped_number (rw finishes at t.answers), (rw finishes at t.leaves) ∙ sym (only number held left (omega arith) r).1);
+            (ap checked_number (rw finishes at t.answers), (rw finishes at t.leaves) ∙ sym (only number held left (omega arith) r).1);
       }
