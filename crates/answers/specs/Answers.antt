@@ -6,9 +6,7 @@ use Rattle.answers.specs.declared.Fault.{Fault}
 use Rattle.answers.specs.declared.Fault.TheVariants.{NoIdentifier, Doubled, NoBlock, PastEnd, OpenMark, WrongEdc, ForbiddenLetter}
 use Rattle.answers.specs.declared.Answer.{Answer}
 use Rattle.answers.specs.declared.Answer.TheVariants.{Data, Control, Defective, Refused}
-use Rattle.answers.specs.declared.Answered.{Answered}
 use Rattle.answers.specs.declared.Record.{Record}
-use Rattle.answers.specs.declared.Records.{Records}
 
 -- The number of a fault (01, "How a track is read"; 27: 02, Req 04).
 abbrev pub fault_number : Fault → ℕ
@@ -65,20 +63,18 @@ carries Defective = true
 abbrev pub no_place : ℕ
 no_place = 4294967295
 
--- What a sector answers of which nothing is known; also what the logic reads past the end of the answers, where no index reaches.
-abbrev pub unanswered : Answered
-unanswered = record { answer = Refused NoIdentifier }
+-- What the logic reads past the end of the records, where no index reaches.
+abbrev pub no_record : Record
+no_record = record { answer = Refused NoIdentifier; place = 0; clocks = 0 }
+
+-- The record of a sector of which nothing is known.
+abbrev pub unread : Record
+unread = record { answer = Refused NoIdentifier; place = no_place; clocks = 0 }
 
 -- The records of a track of which nothing is known.
-abbrev pub unread_records : Records
-unread_records =
-    record { answers = replicate most_sectors unanswered; places = replicate most_sectors no_place; clocks = replicate most_sectors 0 }
+abbrev pub unread_records : List Record
+unread_records = replicate most_sectors unread
 
 -- The record of a sector. There is one for every sector number that passes.
-abbrev pub record_at : Records → ℕ → Record
-record_at records sector =
-    record {
-      answer = (get_or records.answers (sector - 1) unanswered).answer;
-      place = get_or records.places (sector - 1) 0;
-      clocks = get_or records.clocks (sector - 1) 0;
-    }
+abbrev pub record_at : List Record → ℕ → Record
+record_at records sector = get_or records (sector - 1) no_record

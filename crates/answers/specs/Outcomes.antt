@@ -1,14 +1,14 @@
 -- What each public function of this crate promises.
-use Rattle.std.specs.Prelude.{Bool, ◌≡◌, ℕ}
+use Rattle.std.specs.Prelude.{Bool, List, ◌≡◌, ℕ}
 use Rattle.answers.specs.Answers.{fault_number, answer_number, answer_of, is_answer, carries, unread_records}
 use Rattle.answers.specs.Letters.{answer_after}
 use Rattle.marks.specs.declared.Mark.{Mark}
 use Rattle.answers.specs.declared.Fault.{Fault}
 use Rattle.answers.specs.declared.Answer.{Answer}
-use Rattle.answers.specs.declared.Records.{Records}
+use Rattle.answers.specs.declared.Record.{Record}
 
 -- `unread_records` answers the records of which nothing is known.
-abbrev pub AreUnread : Records → Type 0
+abbrev pub AreUnread : List Record → Type 0
 AreUnread answer = answer ≡ unread_records
 
 -- `fault_number` and `answer_number` answer the papers' numbers, and `answer_of` the answer of a number.

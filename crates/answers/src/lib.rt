@@ -12,7 +12,7 @@ use layouts::MOST_SECTORS;
 use marks::Mark;
 
 // Why a sector is refused, in the order of the papers' numbers 21 to 27.
-#[derive(Clone, Copy)]
+#[derive(Clone, Copy, Debug, PartialEq, Eq)]
 pub enum Fault {
     // no accepted identifier
     NoIdentifier,
@@ -31,7 +31,7 @@ pub enum Fault {
 }
 
 // What a sector answers. (Refused stands first: what the logic reads past an array's end is each enum's first case.)
-#[derive(Clone, Copy)]
+#[derive(Clone, Copy, Debug, PartialEq, Eq)]
 pub enum Answer {
     // the slot is all zero
     Refused(Fault),
@@ -50,7 +50,7 @@ pub const LETTER_F: u8 = 0x46;
 pub const NO_PLACE: u32 = 4294967295;
 
 // What is known of one sector.
-#[derive(Clone, Copy)]
+#[derive(Clone, Copy, Debug, PartialEq, Eq)]
 pub struct Record {
     pub answer: Answer,
     // the cell at which its data, control or open mark begins; NO_PLACE for 21, 22 and 23
@@ -59,33 +59,15 @@ pub struct Record {
     pub clocks: u32,
 }
 
-// What one sector answers, where the answers of all stand in a list.
-#[derive(Clone, Copy)]
-pub struct Answered {
-    pub answer: Answer,
-}
-
-// The records of a track, by sector number, from 1 on: a list for each field of a record. So they are filled and copied as words; between the
-// fields of 26 records there would be bytes of no use, and each field would be moved by itself.
-#[derive(Clone, Copy)]
-pub struct Records {
-    pub answers: [Answered; MOST_SECTORS],
-    pub places: [u32; MOST_SECTORS],
-    pub clocks: [u32; MOST_SECTORS],
-}
-
-// The records of a track of which nothing is known.
-pub fn unread_records() -> Records
+// The records of a track of which nothing is known, by sector number, from 1 on.
+pub fn unread_records() -> [Record; MOST_SECTORS]
     ensures { AreUnread result }
 {
-    let unanswered = Answered {
+    [Record {
         answer: Answer::Refused(Fault::NoIdentifier),
-    };
-    Records {
-        answers: [unanswered; MOST_SECTORS],
-        places: [NO_PLACE; MOST_SECTORS],
-        clocks: [0; MOST_SECTORS],
-    }
+        place: NO_PLACE,
+        clocks: 0,
+    }; MOST_SECTORS]
 }
 
 // The number that the papers give a fault.

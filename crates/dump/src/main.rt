@@ -3,7 +3,7 @@
 
 ghost use Rattle.std.specs.Prelude.{◌≤◌};
 
-use answers::Records;
+use answers::Record;
 use layouts::MOST_SECTORS;
 use read::Reading;
 use std::io;
@@ -27,13 +27,11 @@ fn print_refusal(rt: &impl Print, number: u8) -> io::Result<()> {
 }
 
 // A line for each sector of the track: its number and its answer.
-fn print_answers(rt: &impl Print, sectors: usize, records: Records) -> io::Result<()> {
+fn print_answers(rt: &impl Print, sectors: usize, records: [Record; MOST_SECTORS]) -> io::Result<()> {
     let mut index = 0;
     while index < MOST_SECTORS {
         if index < sectors {
-            let answered = records.answers[index];
-            let answer = answered.answer;
-            let number = answers::answer_number(answer);
+            let number = answers::answer_number(records[index].answer);
             print_line(rt, index as u64 + 1, number as u64)?;
         }
         index += 1;

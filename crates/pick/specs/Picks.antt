@@ -9,7 +9,6 @@ use Rattle.calls.specs.declared.Refusal.{Refusal}
 use Rattle.verdicts.specs.Tests.{Test, refusal, by}
 use Rattle.answers.specs.Answers.{carries, record_at}
 use Rattle.answers.specs.declared.Record.{Record}
-use Rattle.answers.specs.declared.Records.{Records}
 use Rattle.pick.specs.declared.Choice.{Choice}
 use Rattle.pick.specs.declared.Choice.TheVariants.{First, Second, Neither}
 
@@ -31,7 +30,7 @@ unfoldable pub chosen_of : (layout sector first second : ℕ) → Record → Rec
 chosen_of layout sector first second one two = by (refusal (pick_tests layout sector first second)) (Ok (choice one two)) Err
 
 -- What is picked of two passes, by their areas and their records.
-abbrev pub picked_of : (layout sector : ℕ) → (first : List ℕ) → Records → (second : List ℕ) → Records → Result Choice Refusal
+abbrev pub picked_of : (layout sector : ℕ) → (first : List ℕ) → List Record → (second : List ℕ) → List Record → Result Choice Refusal
 picked_of layout sector first one second two = chosen_of layout sector (length first) (length second) (record_at one sector) (record_at two sector)
 
 -- The stretch that goes with what is picked: that pass's slot of that sector, or an empty one.
@@ -49,10 +48,10 @@ stretch_of l sector first second (Err f) = []
 abbrev pub IsChosen : (layout sector first second : ℕ) → Record → Record → Result Choice Refusal → Type 0
 IsChosen layout sector first second one two answer = answer ≡ chosen_of layout sector first second one two
 
-abbrev pub IsPicked : (layout sector : ℕ) → (first : List ℕ) → Records → (second : List ℕ) → Records → Result Choice Refusal → Type 0
+abbrev pub IsPicked : (layout sector : ℕ) → (first : List ℕ) → List Record → (second : List ℕ) → List Record → Result Choice Refusal → Type 0
 IsPicked layout sector first one second two answer = answer ≡ picked_of layout sector first one second two
 
 -- `pick` hands back the stretch that goes with it.
-abbrev pub IsStretch : (layout sector : ℕ) → (first : List ℕ) → Records → (second : List ℕ) → Records → List ℕ → Type 0
+abbrev pub IsStretch : (layout sector : ℕ) → (first : List ℕ) → List Record → (second : List ℕ) → List Record → List ℕ → Type 0
 IsStretch layout sector first one second two stretch =
     stretch ≡ stretch_of (layout_of layout) sector first second (picked_of layout sector first one second two)

@@ -3,8 +3,9 @@
 
 ghost use Rattle.pick.specs.Picks.{IsChosen, IsPicked, IsStretch};
 
-use answers::{Record, Records};
+use answers::Record;
 use calls::Refusal;
+use layouts::MOST_SECTORS;
 
 mod passes;
 mod refusals;
@@ -41,9 +42,9 @@ pub fn picked(
     layout: u32,
     sector: u32,
     first: &[u8],
-    first_records: Records,
+    first_records: [Record; MOST_SECTORS],
     second: &[u8],
-    second_records: Records,
+    second_records: [Record; MOST_SECTORS],
 ) -> Result<Choice, Refusal>
     ensures { IsPicked layout sector first.now first_records second.now second_records result }
 {
@@ -59,9 +60,9 @@ pub fn pick<'a>(
     layout: u32,
     sector: u32,
     first: &'a [u8],
-    first_records: Records,
+    first_records: [Record; MOST_SECTORS],
     second: &'a [u8],
-    second_records: Records,
+    second_records: [Record; MOST_SECTORS],
 ) -> &'a [u8]
     ensures { IsStretch layout sector first.now first_records second.now second_records result.now }
 {

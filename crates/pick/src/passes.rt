@@ -5,37 +5,28 @@ ghost use Rattle.answers.specs.Answers.{record_at};
 ghost use Rattle.pick.specs.Picks.{choice, stretch_in};
 
 use super::Choice;
-use answers::{Record, Records};
-use layouts::Layout;
+use answers::Record;
+use layouts::{Layout, MOST_SECTORS};
 
 // The pass whose record carries bytes, the first before the second.
 pub(crate) fn chosen_pass(first: Record, second: Record) -> Choice
     ensures { result ≡ choice first second }
 {
-    let one = first.answer;
-    let two = second.answer;
-    if answers::carries_bytes(one) {
+    if answers::carries_bytes(first.answer) {
         return Choice::First(first);
     }
-    if answers::carries_bytes(two) {
+    if answers::carries_bytes(second.answer) {
         return Choice::Second(second);
     }
     Choice::Neither(first)
 }
 
 // The record of a sector that there is.
-pub(crate) fn record_at(records: Records, sector: u32) -> Record
+pub(crate) fn record_at(records: [Record; MOST_SECTORS], sector: u32) -> Record
     requires { (1 ≤ sector) × (sector ≤ most_sectors) }
     ensures { result ≡ record_at records sector }
 {
-    let at = sector as usize - 1;
-    let answered = records.answers[at];
-    let answer = answered.answer;
-    Record {
-        answer,
-        place: records.places[at],
-        clocks: records.clocks[at],
-    }
+    records[sector as usize - 1]
 }
 
 // The slot of a sector that there is.

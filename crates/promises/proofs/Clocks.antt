@@ -1,5 +1,5 @@
 -- Doubtful clocks: what the sum in each record is, that no answer depends on it, and where it is 0.
-use mathlib.Core.Path.{◌≡◌, refl, sym, ap, subst, ◌∙◌}
+use mathlib.Core.Path.{◌≡◌, refl, sym, ap, ap₂, subst, ◌∙◌}
 use mathlib.Core.Bool.{Bool, true, false, cond}
 use mathlib.Core.List.{List, [], ◌∷◌}
 use mathlib.Core.Logic.{inl, inr, ⊎_elim}
@@ -8,8 +8,9 @@ use native.Mathlib.Omega.{arith}
 use borrow.Author.Tests.{le-leb, lt-leb}
 use lib.Dec.{leb}
 use lib.ListN.{length, take}
+use Rattle.answers.specs.declared.Record.{Record}
 use Rattle.calls.specs.declared.Refusal.{Refusal}
-use Rattle.std.specs.Prelude.{Result, IsOkAnd, replicate}
+use Rattle.std.specs.Prelude.{Result, IsOkAnd, replicate, map}
 use Rattle.answers.specs.Answers.{no_place}
 use Rattle.answers.specs.Letters.{answer_after}
 use Rattle.answers.specs.declared.Answer.{Answer}
@@ -25,11 +26,10 @@ use Rattle.marks.specs.Marks.{mark_cells, of_block, stands}
 use Rattle.marks.specs.declared.Mark.{Mark}
 use Rattle.marks.specs.declared.Mark.TheVariants as marks
 use Rattle.marks.proofs.Spelling.{one_mark}
-use Rattle.read.specs.Records.{Sector, its_clocks, refused as refusing, block_after, block_answer, block_bytes, identifier_record, record_for, sector_of, by_sector, slot_of}
+use Rattle.read.specs.Records.{Sector, refused as refusing, block_after, block_answer, block_bytes, identifier_record, record_for, sector_of, records_of, slot_of}
 use Rattle.read.specs.Outcomes.{reading}
 use Rattle.read.specs.declared.Reading.{Reading}
 use Rattle.read.proofs.Recording.{block_cases}
-use Rattle.read.proofs.Sectors.{map_all}
 use Rattle.search.proofs.Searching.{le_or_lt}
 use Rattle.station.specs.Outcomes.{GivesRead}
 use Rattle.station.specs.Records.{numbered_at}
@@ -191,14 +191,19 @@ all_faultless t contents marks image back (suc s) =
     ⊎_elim (λ (h : suc s ≤ t.layout.sectors). back.clocks (suc s) (omega arith, h)) (λ h. rw (lt-leb (suc s) t.layout.sectors h))
     (le_or_lt (suc s) t.layout.sectors)
 
+-- Where each has the same, so have all that are listed.
+all_same : {A : Type 0} (g : A → ℕ) (f : ℕ → A) (v : ℕ) → ((s : ℕ) → g (f s) ≡ v) → (k a : ℕ) → map g (map f (numbers k a)) ≡ replicate k v
+all_same g f v h zero a = refl
+all_same g f v h (suc k) a = ap₂ ◌∷◌ (h a) (all_same g f v h k (suc a))
+
 pub faultless_clocks : FaultlessClocks
-unfolding by_sector
+unfolding records_of
 faultless_clocks =
     record {
       formatted = λ layout cylinder side contents marks before image answer area all formats reads.
           let taken = written_taken layout cylinder side contents marks before image answer area all formats reads in
-          subst (λ (r : Result Reading Refusal). IsOkAnd r (λ hands. hands.records.clocks ≡ replicate most_sectors 0)) (sym taken.told)
-          (map_all (λ s. its_clocks (sector_in (track_of layout cylinder side) image s)) 0
+          subst (λ (r : Result Reading Refusal). IsOkAnd r (λ hands. map (λ (r : Record). r.clocks) hands.records ≡ replicate most_sectors 0)) (sym taken.told)
+          (all_same (λ (r : Record). r.clocks) (λ s. (sector_in (track_of layout cylinder side) image s).known) 0
           (all_faultless (track_of layout cylinder side) contents marks image taken.back) most_sectors 1);
       there = λ layout cylinder side contents marks before image number area records counts s all formats reads named.
           (gives_back_as_written layout cylinder side contents marks before image number area records counts all formats reads).clocks s named;

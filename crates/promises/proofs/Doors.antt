@@ -27,7 +27,6 @@ use Rattle.pick.specs.declared.Choice.TheVariants as pick
 use Rattle.answers.specs.declared.Fault.TheVariants.{NoIdentifier, Doubled, NoBlock, PastEnd, OpenMark, WrongEdc, ForbiddenLetter}
 use Rattle.read.specs.declared.Reading.{Reading}
 use Rattle.answers.specs.declared.Record.{Record}
-use Rattle.answers.specs.declared.Records.{Records}
 use Rattle.read.proofs.Passing.{modest}
 use Rattle.pick.proofs.Picking.{pickable}
 use Rattle.station.proofs.Listing.{slot_number, listed_at_lem}
@@ -131,7 +130,7 @@ pub none : (f : Refusal) → 0 ≡ refusal_number f → ⊥
 none f e = let k = number_known f in absurd (omega arith)
 
 -- Number k of a sector's record in the list.
-number_in : (k : ℕ) → k < record_width → (count : ℕ) (records : Records) (s i : ℕ) → 1 ≤ s → s ≤ count → count ≤ most_sectors → i ≡ (s - 1) * record_width + k
+number_in : (k : ℕ) → k < record_width → (count : ℕ) (records : List Record) (s i : ℕ) → 1 ≤ s → s ≤ count → count ≤ most_sectors → i ≡ (s - 1) * record_width + k
     → get_or (record_list count records) i 0 ≡ get_or (record_numbers (record_at records s)) k 0
 unfolding sector_numbers
 number_in k h count records s i low inside few e =
@@ -140,15 +139,15 @@ number_in k h count records s i low inside few e =
     ∙ rw (le-leb s count inside)
 
 -- The first is its answer's, the second its place, the third the sum of its doubtful clock cells.
-answer_in_lem : (count : ℕ) (records : Records) (s : ℕ) → 1 ≤ s → s ≤ count → count ≤ most_sectors
+answer_in_lem : (count : ℕ) (records : List Record) (s : ℕ) → 1 ≤ s → s ≤ count → count ≤ most_sectors
     → answer_in (record_list count records) s ≡ answer_number (record_at records s).answer
 answer_in_lem count records s low inside few = number_in 0 (omega arith) count records s _ low inside few (omega arith)
 
-pub place_in_lem : (count : ℕ) (records : Records) (s : ℕ) → 1 ≤ s → s ≤ count → count ≤ most_sectors
+pub place_in_lem : (count : ℕ) (records : List Record) (s : ℕ) → 1 ≤ s → s ≤ count → count ≤ most_sectors
     → place_in (record_list count records) s ≡ (record_at records s).place
 place_in_lem count records s low inside few = number_in 1 (omega arith) count records s _ low inside few refl
 
-clocks_in_lem : (count : ℕ) (records : Records) (s : ℕ) → 1 ≤ s → s ≤ count → count ≤ most_sectors
+clocks_in_lem : (count : ℕ) (records : List Record) (s : ℕ) → 1 ≤ s → s ≤ count → count ≤ most_sectors
     → clocks_in (record_list count records) s ≡ (record_at records s).clocks
 clocks_in_lem count records s low inside few = number_in 2 (omega arith) count records s _ low inside few refl
 

@@ -35,7 +35,6 @@ use Rattle.file.specs.declared.Written.{Written}
 use Rattle.answers.specs.declared.Record.{Record}
 use Rattle.answers.specs.declared.Fault.{Fault}
 use Rattle.answers.specs.declared.Answer.{Answer}
-use Rattle.answers.specs.declared.Records.{Records}
 use Rattle.read.specs.declared.Reading.{Reading}
 use Rattle.rewrite.specs.Outcomes.{CountsStores, Steps}
 use Rattle.request.specs.Outcomes.{Requests}
@@ -219,10 +218,10 @@ read layout cylinder side image given x y p q = by_values _ _ x y (p.answers, p.
 pub choose : (layout sector first second : ℕ) (one two : Record) → Unique (IsChosen layout sector first second one two)
 choose layout sector first second one two = by_value _
 
-pub picked : (layout sector : ℕ) (first : List ℕ) (one : Records) (second : List ℕ) (two : Records) → Unique (IsPicked layout sector first one second two)
+pub picked : (layout sector : ℕ) (first : List ℕ) (one : List Record) (second : List ℕ) (two : List Record) → Unique (IsPicked layout sector first one second two)
 picked layout sector first one second two = by_value _
 
-pub pick : (layout sector : ℕ) (first : List ℕ) (one : Records) (second : List ℕ) (two : Records) → Unique (IsStretch layout sector first one second two)
+pub pick : (layout sector : ℕ) (first : List ℕ) (one : List Record) (second : List ℕ) (two : List Record) → Unique (IsStretch layout sector first one second two)
 pick layout sector first one second two = by_value _
 
 -- ---- rewrite

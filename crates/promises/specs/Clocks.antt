@@ -1,5 +1,5 @@
 -- Doubtful clocks (02, Req 06): what the sum in a sector's record is, of every sector of every image; that no answer depends on it; and where it is 0.
-use Rattle.std.specs.Prelude.{Bool, true, false, List, [], ◌∷◌, ◌≡◌, ℕ, ◌+◌, ◌*◌, length, replicate, Result, Ok, IsOkAnd}
+use Rattle.std.specs.Prelude.{Bool, true, false, List, [], ◌∷◌, ◌≡◌, ℕ, ◌+◌, ◌*◌, length, replicate, Result, Ok, IsOkAnd, map}
 use Rattle.answers.specs.declared.Answer.{Answer}
 use Rattle.answers.specs.declared.Answer.TheVariants as answers
 use Rattle.answers.specs.declared.Fault.TheVariants.{NoIdentifier, Doubled, NoBlock, PastEnd, OpenMark, WrongEdc, ForbiddenLetter}
@@ -102,7 +102,7 @@ pub record FaultlessClocks : Type 0 where
       → Bytes contents
       → Formats layout cylinder side contents marks before (Ok _) image
       → Reads layout cylinder side image (layout_of layout).area_bytes answer area
-      → IsOkAnd answer (λ reading. reading.records.clocks ≡ replicate most_sectors 0)
+      → IsOkAnd answer (λ reading. map (λ (r : Record). r.clocks) reading.records ≡ replicate most_sectors 0)
   -- also at the door.
   pub there : (layout cylinder side : ℕ) (contents marks before image : List ℕ) (number : ℕ) (area records counts : List ℕ) (s : ℕ)
       → Bytes contents

@@ -10,7 +10,6 @@ use Rattle.read.specs.Outcomes.{Reads}
 use Rattle.pick.specs.Picks.{IsPicked, IsStretch}
 use Rattle.read.specs.declared.Reading.{Reading}
 use Rattle.answers.specs.declared.Record.{Record}
-use Rattle.answers.specs.declared.Records.{Records}
 use Rattle.pick.specs.declared.Choice.{Choice}
 use Rattle.pick.specs.declared.Choice.TheVariants.{First, Second, Neither}
 use Rattle.promises.specs.Sectors.{sector_in}
@@ -63,7 +62,7 @@ pub record OfOnePass (l : Layout) (sector : ℕ) (first second : List ℕ) (one 
 -- The part that is picked is the slot of one area, the one that `picked` names: never a sector put together from both.
 abbrev pub PartOfOnePass : Type 0
 PartOfOnePass =
-    (layout sector : ℕ) (first : List ℕ) (one : Records) (second : List ℕ) (two : Records) (answer : Result Choice Refusal) (part : List ℕ)
+    (layout sector : ℕ) (first : List ℕ) (one : List Record) (second : List ℕ) (two : List Record) (answer : Result Choice Refusal) (part : List ℕ)
     → IsPicked layout sector first one second two answer
     → IsStretch layout sector first one second two part
     → OfOnePass (layout_of layout) sector first second (record_at one sector) (record_at two sector) answer part

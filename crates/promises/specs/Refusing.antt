@@ -10,7 +10,7 @@ use Rattle.answers.specs.Answers.{answer_number}
 use Rattle.read.specs.Outcomes.{Reads, read_tests}
 use Rattle.pick.specs.Picks.{IsPicked, pick_tests}
 use Rattle.read.specs.declared.Reading.{Reading}
-use Rattle.answers.specs.declared.Records.{Records}
+use Rattle.answers.specs.declared.Record.{Record}
 use Rattle.pick.specs.declared.Choice.{Choice}
 use Rattle.request.specs.Outcomes.{Requests}
 use Rattle.rewrite.specs.Outcomes.{Steps}
@@ -62,7 +62,7 @@ LocateRefuses =
 -- 4, 9, 5 of the pick, whose answers and refusals are kept apart by the enum, since they share numbers;
 abbrev pub PickRefuses : Type 0
 PickRefuses =
-    (layout sector : ℕ) (first : List ℕ) (one : Records) (second : List ℕ) (two : Records) (answer : Result Choice Refusal)
+    (layout sector : ℕ) (first : List ℕ) (one : List Record) (second : List ℕ) (two : List Record) (answer : Result Choice Refusal)
     → IsPicked layout sector first one second two answer
     → ExactlyBy (pick_tests layout sector (length first) (length second)) (λ f. answer ≡ Err f)
 

@@ -90,12 +90,7 @@ with_record (Ok reading) sector x =
     Ok (
     record {
       sectors = reading.sectors;
-      records =
-          record {
-            answers = set reading.records.answers (sector - 1) (record { answer = x.answer });
-            places = set reading.records.places (sector - 1) x.place;
-            clocks = set reading.records.clocks (sector - 1) x.clocks;
-          };
+      records = set reading.records (sector - 1) x;
       bad = reading.bad;
       foreign = reading.foreign;
     }

@@ -18,24 +18,12 @@ use Rattle.answers.specs.declared.Fault.{Fault}
 use Rattle.answers.specs.declared.Fault.TheVariants.{NoIdentifier, Doubled, NoBlock, PastEnd, OpenMark}
 use Rattle.answers.specs.declared.Answer.{Answer}
 use Rattle.answers.specs.declared.Answer.TheVariants.{Data, Control, Defective, Refused}
-use Rattle.answers.specs.declared.Answered.{Answered}
 use Rattle.answers.specs.declared.Record.{Record}
-use Rattle.answers.specs.declared.Records.{Records}
 
 -- What is known of a sector: its record, and what its slot holds.
 pub record Sector : Type 0 where
   pub known : Record
   pub slot : List ℕ
-
--- Its answer, its place, and how many of its clock cells are doubtful.
-abbrev pub its_answer : Sector → Answered
-its_answer x = record { answer = x.known.answer }
-
-abbrev pub its_place : Sector → ℕ
-its_place x = x.known.place
-
-abbrev pub its_clocks : Sector → ℕ
-its_clocks x = x.known.clocks
 
 -- What each of these sectors has, one behind the other.
 unfoldable pub slots : (ℕ → List ℕ) → List ℕ → List ℕ
@@ -104,13 +92,9 @@ module _ (t : Track) (c : ℕ → ℕ) (n : ℕ) where
   unfoldable pub sector_of : List Event → ℕ → Sector
   sector_of es s = cond (leb s t.layout.sectors) (record_for (blocks s es)) (refused t.layout.size NoIdentifier no_place)
 
-  -- What is said of each sector, by sector number.
-  unfoldable pub by_sector : {A : Type 0} → (Sector → A) → List Event → List A
-  by_sector f es = map (λ s. f (sector_of es s)) (numbers most_sectors 1)
-
   -- The records, by sector number: what each sector answers, its place, and how many of its clock cells are doubtful.
-  abbrev pub records_of : List Event → Records
-  records_of es = record { answers = by_sector its_answer es; places = by_sector its_place es; clocks = by_sector its_clocks es }
+  unfoldable pub records_of : List Event → List Record
+  records_of es = map (λ s. (sector_of es s).known) (numbers most_sectors 1)
 
   -- The area that is lent to the read: the slots of the sectors, one behind the other.
   unfoldable pub area_of : List Event → List ℕ

@@ -4,8 +4,9 @@
 ghost use Rattle.std.specs.Prelude.{length};
 ghost use Rattle.read.specs.Outcomes.{Reads};
 
-use answers::Records;
+use answers::Record;
 use calls::Refusal;
+use layouts::MOST_SECTORS;
 
 mod blocks;
 mod refusals;
@@ -16,7 +17,8 @@ mod tracks;
 pub struct Reading {
     // the sectors of the track
     pub sectors: usize,
-    pub records: Records,
+    // by sector number, from 1 on; past the count each is as if nothing were known
+    pub records: [Record; MOST_SECTORS],
     // the identifiers whose EDC is wrong
     pub bad: u32,
     // the identifiers of other tracks

@@ -9,7 +9,7 @@ ghost use Rattle.read.specs.Outcomes.{reading};
 
 use super::Reading;
 use super::blocks::next_record;
-use answers::{Answer, Answered, Record, Records};
+use answers::{Answer, Record};
 use layouts::Track;
 use walk::{Block, Event, Round};
 
@@ -36,10 +36,7 @@ pub(crate) fn read_track(track: Track, image: &[u8], area: &mut [u8]) -> Reading
     requires { Housed image.now × Modest track.layout × (area.old ≡ replicate (track.layout.sectors * track.layout.size) 0) }
     ensures { (result ≡ reading track image.now) × (area.new ≡ area_of track (cell image.now) (8 * length image.now) (met track image.now)) }
 {
-    let unread = answers::unread_records();
-    let mut answers = unread.answers;
-    let mut places = unread.places;
-    let mut clocks = unread.clocks;
+    let mut records = answers::unread_records();
     // in this order, in which the back end holds the bad ones in a register: noise is full of them
     let mut foreign: u32 = 0;
     let mut bad: u32 = 0;
@@ -60,13 +57,9 @@ pub(crate) fn read_track(track: Track, image: &[u8], area: &mut [u8]) -> Reading
                         foreign += 1;
                     }
                     Event::Accepted(sector, block) => {
-                        let known = answers[sector - 1];
-                        let before = known.answer;
+                        let before = records[sector - 1].answer;
                         let after = enter(track, image, before, sector, block, area);
-                        let answer = after.answer;
-                        answers[sector - 1] = Answered { answer };
-                        places[sector - 1] = after.place;
-                        clocks[sector - 1] = after.clocks;
+                        records[sector - 1] = after;
                     }
                 }
                 place = next;
@@ -76,11 +69,7 @@ pub(crate) fn read_track(track: Track, image: &[u8], area: &mut [u8]) -> Reading
     let layout = track.layout;
     Reading {
         sectors: layout.sectors,
-        records: Records {
-            answers,
-            places,
-            clocks,
-        },
+        records,
         bad,
         foreign,
     }

@@ -13,9 +13,8 @@ use lib.Seq.{sets, sets-eq, get_or-drop}
 use Rattle.cells.proofs.Stores.{sets_append}
 use Rattle.layouts.specs.Layouts.{most_sectors, numbers, slot_in}
 use Rattle.read.specs.Records.{slots}
-use Rattle.answers.specs.Answers.{unanswered, record_at}
+use Rattle.answers.specs.Answers.{no_record, record_at}
 use Rattle.answers.specs.declared.Record.{Record}
-use Rattle.answers.specs.declared.Records.{Records}
 use Rattle.read.proofs.Sectors.{slots_same, slots_zero, length_slots, slots_at}
 use Rattle.station.specs.Records.{record_width, record_numbers, sector_numbers, record_list}
 
@@ -95,7 +94,7 @@ stored list given at = set (set (set list at (get_or given 0 0)) (at + 1) (get_o
 
 -- ---- the records of a track
 
-module _ (count : ℕ) (records : Records) where
+module _ (count : ℕ) (records : List Record) where
   -- Every sector has as many numbers.
   pub sector_wide : (s : ℕ) → length (sector_numbers count records s) ≡ record_width
   unfolding sector_numbers
@@ -105,16 +104,11 @@ module _ (count : ℕ) (records : Records) where
       go true = refl
       go false = refl
 
-  -- The record at an index, as the loop finds it.
-  abbrev listed_at : ℕ → Record
-  listed_at i =
-      record { answer = (get_or records.answers i unanswered).answer; place = get_or records.places i 0; clocks = get_or records.clocks i 0 }
-
   -- What is left to list of the sectors that there are.
   abbrev pub left : ℕ → List ℕ
   left i = rest (sector_numbers count records) record_width sector_wide count i
 
-  pub listed_turn : (list given : List ℕ) (i : ℕ) → i < count → given ≡ record_numbers (listed_at i)
+  pub listed_turn : (list given : List ℕ) (i : ℕ) → i < count → given ≡ record_numbers (get_or records i no_record)
       → sets list (i * record_width) (left i) ≡ sets (stored list given (i * record_width)) ((i + 1) * record_width) (left (i + 1))
   unfolding sector_numbers
   listed_turn list given i h e =

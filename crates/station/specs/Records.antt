@@ -5,7 +5,6 @@ use Rattle.layouts.specs.Layouts.{most_sectors, numbers, slot_in}
 use Rattle.answers.specs.Answers.{answer_number, answer_of, record_at}
 use Rattle.read.specs.Records.{slots}
 use Rattle.answers.specs.declared.Record.{Record}
-use Rattle.answers.specs.declared.Records.{Records}
 
 -- How many numbers a record is handed out in.
 abbrev pub record_width : ℕ
@@ -21,11 +20,11 @@ abbrev pub numbered_record : List ℕ → Record
 numbered_record given = record { answer = answer_of (get_or given 0 0); place = get_or given 1 0; clocks = get_or given 2 0 }
 
 -- The numbers of sector s, or zeros past the count (01, "How a track is read").
-unfoldable pub sector_numbers : (count : ℕ) → Records → ℕ → List ℕ
+unfoldable pub sector_numbers : (count : ℕ) → List Record → ℕ → List ℕ
 sector_numbers count records s = cond (leb s count) (record_numbers (record_at records s)) (replicate record_width 0)
 
 -- The numbers of all sectors, one behind the other.
-unfoldable pub record_list : (count : ℕ) → Records → List ℕ
+unfoldable pub record_list : (count : ℕ) → List Record → List ℕ
 record_list count records = slots (sector_numbers count records) (numbers most_sectors 1)
 
 -- The record of a sector, by the numbers of all sectors.

@@ -5,7 +5,7 @@ ghost use Rattle.answers.specs.Answers.{answer_number};
 ghost use Rattle.station.specs.Outcomes.{answered_records, answered_counts};
 ghost use Rattle.station.specs.Records.{record_width, record_numbers, record_list, numbered_at};
 
-use answers::{Record, Records};
+use answers::Record;
 use calls::Refusal;
 use layouts::MOST_SECTORS;
 use read::Reading;
@@ -29,25 +29,15 @@ pub(crate) fn record_numbers(record: Record) -> [u32; WIDTH]
 }
 
 // Lists the numbers of the sectors that there are, in a list of zeros.
-pub(crate) fn list_sectors(count: usize, records: Records, list: &mut [u32])
+pub(crate) fn list_sectors(count: usize, records: [Record; MOST_SECTORS], list: &mut [u32])
     requires { (count ≤ most_sectors) × (list.old ≡ replicate (most_sectors * record_width) 0) }
     ensures { list.new ≡ record_list count records }
 {
-    let mut i = 0;
-    while i < count {
-        let answered = records.answers[i];
-        let answer = answered.answer;
-        let place = records.places[i];
-        let clocks = records.clocks[i];
-        let numbers = record_numbers(Record {
-            answer,
-            place,
-            clocks,
-        });
+    for i in 0..count {
+        let numbers = record_numbers(records[i]);
         list[i * WIDTH] = numbers[0];
         list[i * WIDTH + 1] = numbers[1];
         list[i * WIDTH + 2] = numbers[2];
-        i += 1;
     }
 }
 

@@ -28,12 +28,10 @@ use Rattle.layouts.specs.Tracks.{track_of}
 use Rattle.layouts.specs.declared.Layout.{Layout}
 use Rattle.layouts.specs.declared.Track.{Track}
 use Rattle.layouts.proofs.Layouts.{every_layout, adds}
-use Rattle.read.specs.Records.{Sector, its_answer, its_place, its_clocks, by_sector, area_of}
-use Rattle.answers.specs.Answers.{answer_number, unanswered, record_at}
+use Rattle.read.specs.Records.{Sector, records_of, area_of}
+use Rattle.answers.specs.Answers.{answer_number, no_record, record_at}
 use Rattle.read.specs.Outcomes.{reading, read_tests, read_answer, read_area, Reads}
 use Rattle.read.specs.declared.Reading.{Reading}
-use Rattle.answers.proofs.Fields.{same_record}
-use Rattle.answers.specs.declared.Answered.{Answered}
 use Rattle.answers.specs.declared.Record.{Record}
 use Rattle.read.proofs.Passing.{modest}
 use Rattle.read.proofs.Recording.{length_sector}
@@ -91,14 +89,9 @@ first_of_slot size s area some P h =
 
 module _ (t : Track) (image : List ℕ) (s : ℕ) (low : 1 ≤ s) (high : s ≤ t.layout.sectors) where
   -- Its record,
-  said_read : {A : Type 0} (f : Sector → A) (d : A) → t.layout.sectors ≤ most_sectors
-      → get_or (by_sector t (cell image) (8 * length image) f (met t image)) (s - 1) d ≡ f (sector_in t image s)
-  unfolding by_sector
-  said_read f d few = map_at (λ x. f (sector_in t image x)) d most_sectors 1 s low (omega arith)
-
   pub record_read : t.layout.sectors ≤ most_sectors → record_at (reading t image).records s ≡ (sector_in t image s).known
-  record_read few =
-      same_record (ap (λ (a : Answered). a.answer) (said_read its_answer unanswered few)) (said_read its_place 0 few) (said_read its_clocks 0 few)
+  unfolding records_of
+  record_read few = map_at (λ x. (sector_in t image x).known) no_record most_sectors 1 s low (omega arith)
 
   -- and its slot in the area.
   pub slot_read : 1 ≤ t.layout.size → (area : List ℕ) → area ≡ area_of t (cell image) (8 * length image) (met t image)

@@ -16,7 +16,7 @@ use Rattle.layouts.specs.Refusals.{reading_tests}
 use Rattle.layouts.specs.Tracks.{track_of}
 use Rattle.layouts.specs.declared.Layout.{Layout}
 use Rattle.layouts.specs.declared.Track.{Track}
-use Rattle.read.specs.Records.{Sector, its_answer, its_place, its_clocks, by_sector, area_of}
+use Rattle.read.specs.Records.{Sector, records_of, area_of}
 use Rattle.read.specs.Outcomes.{read_tests, read_answer, read_area, Reads}
 use Rattle.read.specs.declared.Reading.{Reading}
 use Rattle.read.proofs.Passing.{modest}
@@ -54,12 +54,13 @@ module _ (layout cylinder side sector : ℕ) (image now : List ℕ) (m : ℕ) (S
   passes_now : refusal (read_tests layout cylinder side (length now) l.area_bytes) ≡ passed
   passes_now = rw long passes
 
-  -- What is said of all but one sector, and all but one of the slots, are as they were.
-  said_but : {A : Type 0} (f : Sector → A) → by_sector t (cell now) (8 * length now) f (met t now)
-      ≡ set (by_sector t (cell image) (8 * length image) f (met t image)) (sector - 1) (f (sector_in t now sector))
-  unfolding by_sector
-  said_but f =
-      map_set (λ x. f (sector_in t image x)) (λ x. f (sector_in t now x)) sector (λ x o. ap f (alike x (λ q. o (sym q)))) most_sectors 1 S.low
+  -- All but one of the records, and all but one of the slots, are as they were.
+  records_but : records_of t (cell now) (8 * length now) (met t now)
+      ≡ set (records_of t (cell image) (8 * length image) (met t image)) (sector - 1) (sector_in t now sector).known
+  unfolding records_of
+  records_but =
+      map_set (λ x. (sector_in t image x).known) (λ x. (sector_in t now x).known) sector
+      (λ x o. ap (λ (y : Sector). y.known) (alike x (λ q. o (sym q)))) most_sectors 1 S.low
 
   area_but : area_of t (cell now) (8 * length now) (met t now)
       ≡ sets (area_of t (cell image) (8 * length image) (met t image)) ((sector - 1) * l.size) (sector_in t now sector).slot
@@ -76,4 +77,4 @@ module _ (layout cylinder side sector : ℕ) (image now : List ℕ) (m : ℕ) (S
       × (after ≡ sets area ((sector - 1) * l.size) (sector_in t now sector).slot)
   unfolding read_answer read_area by
   read_so before answer area after r q =
-      (q.answers ∙ rw (r.answers, passes, passes_now, said_but its_answer, said_but its_place, said_but its_clocks, bad, foreign), q.leaves ∙ rw (r.leaves, passes, passes_now) area_but)
+      (q.answers ∙ rw (r.answers, passes, passes_now, records_but, bad, foreign), q.leaves ∙ rw (r.leaves, passes, passes_now) area_but)

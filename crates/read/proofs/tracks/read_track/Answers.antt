@@ -15,7 +15,6 @@ use Rattle.walk.specs.declared.Event.{Event}
 use Rattle.walk.specs.declared.Event.TheVariants.{Accepted}
 use Rattle.walk.specs.declared.Round.{Round}
 use Rattle.walk.specs.declared.Round.TheVariants.{Meets}
-use Rattle.answers.specs.Answers.{unanswered}
 use Rattle.read.specs.Turns.{Modest}
 use Rattle.answers.specs.declared.Record.{Record}
 use Rattle.read.proofs.States.{state_start, state_left, state_bad, state_foreign, state_accepted, state_end}
@@ -34,7 +33,7 @@ known t image place q sector r x block housed modest told meets is =
 pub loop-place-init : goal.loop-place-init
 loop-place-init c =
     let s = c.requires in
-    let unread = c.unread_records-unread.ensures in
+    let unread = c.unread_records-records.ensures in
     (search rules, search rules, ap length s.2 ∙ length-replicate _ 0, rw unread (state_start _ _ _ _ _ _ (walk_all _ _ _) s.2))
 
 pub loop-place-preserved-in-Ends : goal.loop-place-preserved-in-Ends
@@ -46,18 +45,18 @@ loop-place-preserved-in-Ends c =
       state_left _ _ _ l.invariant.3 (walk_ends _ _ _ _ _ c.loop-place-test.true c.next_round-round.ensures c.in-Ends.is),
     )
 
-pub overflow_sub-known : goal.overflow_sub-known
-overflow_sub-known c =
+pub overflow_sub-before : goal.overflow_sub-before
+overflow_sub-before c =
     let k = known _ _ _ _ _ _ _ _ c.requires.0 c.requires.1 c.next_round-round.ensures c.in-Meets.is c.in-Accepted.is in
     k.0
 
-pub offset_bounds-answers-sector : goal.offset_bounds-answers-sector
-offset_bounds-answers-sector c =
+pub offset_bounds-records-sector : goal.offset_bounds-records-sector
+offset_bounds-records-sector c =
     let k = known _ _ _ _ _ _ _ _ c.requires.0 c.requires.1 c.next_round-round.ensures c.in-Meets.is c.in-Accepted.is in
     omega (arith, k.1, k.3)
 
-pub bounds-answers-sector : goal.bounds-answers-sector
-bounds-answers-sector c =
+pub bounds-records-sector : goal.bounds-records-sector
+bounds-records-sector c =
     let k = known _ _ _ _ _ _ _ _ c.requires.0 c.requires.1 c.next_round-round.ensures c.in-Meets.is c.in-Accepted.is in
     omega (arith, k.0, k.1, k.3)
 
@@ -67,48 +66,18 @@ enter-after-requires c =
     let k = known _ _ _ _ _ _ _ _ c.requires.0 c.requires.1 c.next_round-round.ensures c.in-Meets.is c.in-Accepted.is in
     (s.0, s.1, k.0, k.1, k.2, c.loop-place.invariant.2)
 
-pub overflow_sub-answers : goal.overflow_sub-answers
-overflow_sub-answers c =
+pub overflow_sub-records : goal.overflow_sub-records
+overflow_sub-records c =
     let k = known _ _ _ _ _ _ _ _ c.requires.0 c.requires.1 c.next_round-round.ensures c.in-Meets.is c.in-Accepted.is in
     k.0
 
-pub offset_bounds-answers-sector-in-Accepted : goal.offset_bounds-answers-sector-in-Accepted
-offset_bounds-answers-sector-in-Accepted c =
+pub offset_bounds-records-sector-in-Accepted : goal.offset_bounds-records-sector-in-Accepted
+offset_bounds-records-sector-in-Accepted c =
     let k = known _ _ _ _ _ _ _ _ c.requires.0 c.requires.1 c.next_round-round.ensures c.in-Meets.is c.in-Accepted.is in
     omega (arith, k.1, k.3)
 
-pub bounds-answers-sector-in-Accepted : goal.bounds-answers-sector-in-Accepted
-bounds-answers-sector-in-Accepted c =
-    let k = known _ _ _ _ _ _ _ _ c.requires.0 c.requires.1 c.next_round-round.ensures c.in-Meets.is c.in-Accepted.is in
-    omega (arith, k.0, k.1, k.3)
-
-pub overflow_sub-places : goal.overflow_sub-places
-overflow_sub-places c =
-    let k = known _ _ _ _ _ _ _ _ c.requires.0 c.requires.1 c.next_round-round.ensures c.in-Meets.is c.in-Accepted.is in
-    k.0
-
-pub offset_bounds-places-sector : goal.offset_bounds-places-sector
-offset_bounds-places-sector c =
-    let k = known _ _ _ _ _ _ _ _ c.requires.0 c.requires.1 c.next_round-round.ensures c.in-Meets.is c.in-Accepted.is in
-    omega (arith, k.1, k.3)
-
-pub bounds-places-sector : goal.bounds-places-sector
-bounds-places-sector c =
-    let k = known _ _ _ _ _ _ _ _ c.requires.0 c.requires.1 c.next_round-round.ensures c.in-Meets.is c.in-Accepted.is in
-    omega (arith, k.0, k.1, k.3)
-
-pub overflow_sub-clocks : goal.overflow_sub-clocks
-overflow_sub-clocks c =
-    let k = known _ _ _ _ _ _ _ _ c.requires.0 c.requires.1 c.next_round-round.ensures c.in-Meets.is c.in-Accepted.is in
-    k.0
-
-pub offset_bounds-clocks-sector : goal.offset_bounds-clocks-sector
-offset_bounds-clocks-sector c =
-    let k = known _ _ _ _ _ _ _ _ c.requires.0 c.requires.1 c.next_round-round.ensures c.in-Meets.is c.in-Accepted.is in
-    omega (arith, k.1, k.3)
-
-pub bounds-clocks-sector : goal.bounds-clocks-sector
-bounds-clocks-sector c =
+pub bounds-records-sector-in-Accepted : goal.bounds-records-sector-in-Accepted
+bounds-records-sector-in-Accepted c =
     let k = known _ _ _ _ _ _ _ _ c.requires.0 c.requires.1 c.next_round-round.ensures c.in-Meets.is c.in-Accepted.is in
     omega (arith, k.0, k.1, k.3)
 
@@ -153,9 +122,7 @@ loop-place-preserved c =
       o.1,
       omega (arith, o.0, l.invariant.1),
       e.auto.area ∙ l.invariant.2,
-      state_accepted _ _ _ l.invariant.3 _ _ unanswered left k.3.1 k.3.2 k.0 k.1
-          (ap (λ (r : Record). set l.answers at (record { answer = r.answer })) e.ensures.0) (ap (λ (r : Record). set l.places at r.place) e.ensures.0)
-          (ap (λ (r : Record). set l.clocks at r.clocks) e.ensures.0) e.ensures.1,
+      state_accepted _ _ _ l.invariant.3 _ _ left k.3.1 k.3.2 k.0 k.1 (ap (λ (r : Record). set l.records at r) e.ensures.0) e.ensures.1,
     )
 
 pub shape_of-area : goal.shape_of-area
@@ -165,4 +132,4 @@ pub returns : goal.returns
 returns c =
     let l = c.loop-place in
     let z = state_end _ _ _ l.invariant.3 (walk_past _ _ _ _ _ c.loop-place-test.false) in
-    (rw (← z.0, ← z.1, ← z.2, ← z.4, ← z.5), z.3)
+    (rw (← z.0, ← z.2, ← z.3), z.1)

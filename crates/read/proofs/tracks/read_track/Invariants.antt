@@ -12,7 +12,7 @@ abbrev pub invariant-loop-place : goal.invariant-loop-place
 invariant-loop-place l =
     (l.place ≤ 8 * length l.image) × (l.bad + l.foreign ≤ l.place) × (length l.area ≡ l.track.layout.sectors * l.track.layout.size)
     × State l.track (cell l.image) (8 * length l.image) (met l.track l.image) (walk l.track (cell l.image) (8 * length l.image) (8 * length l.image - l.place) l.place)
-    l.answers l.places l.clocks l.area l.bad l.foreign
+    l.records l.area l.bad l.foreign
 
 abbrev pub decreases-loop-place : goal.decreases-loop-place
 decreases-loop-place l =
