@@ -6,39 +6,21 @@ use Prim.Native.Nat.{ℕ, zero, suc, ◌+◌, ◌*◌, ◌/◌, ◌%◌, ◌^◌
 use native.Mathlib.Nat.{zero-mul, one-mul, mul-one, mul_comm, mul_assoc, pow-suc}
 use native.Mathlib.Numerals.{add-one}
 use native.Mathlib.Omega.{arith}
-use lib.Arith.{bin_ind, lt-one}
-use lib.Bits.{bit_xor, differ, xor_step, xor_comm, xor_shr, xor_mod, xor_zero_r, xor_self, xor_shifted, xor_block}
+use lib.Arith.{lt-one}
+use lib.Bits.{bit_xor, xor_assoc, xor_comm, xor_shr, xor_mod, xor_zero_r, xor_self, xor_shifted, xor_block}
 use lib.ListN.{get_or, drop}
+use Rattle.std.proofs.lemmas.Nat.Bits.{bit_at_xor}
 use lib.Pow.{shr_lt, split, pow_pos}
 
 -- ---- exclusive OR
 
--- of two digits
-differ_sum : (x y : ℕ) → x < 2 → y < 2 → differ x y ≡ (x + y) % 2
-differ_sum zero y h k = omega arith
-differ_sum (suc zero) zero h k = refl
-differ_sum (suc zero) (suc zero) h k = refl
-differ_sum (suc zero) (suc (suc y)) h k = absurd (omega arith)
-differ_sum (suc (suc x)) y h k = absurd (omega arith)
-
 -- its lowest digit
 pub xor_odd : (a b : ℕ) → bit_xor a b % 2 ≡ (a + b) % 2
-xor_odd a b = omega (arith, xor_step a b, differ_sum (a % 2) (b % 2) (omega arith) (omega arith))
+xor_odd a b = omega (arith, bit_at_xor a b 0)
 
--- the order in which two numbers are added does not matter: their halves by induction, and their lowest digits
+-- the order in which two numbers are added does not matter
 xor_swap : (a b c : ℕ) → bit_xor (bit_xor a b) c ≡ bit_xor (bit_xor a c) b
-xor_swap =
-    bin_ind (λ (n : ℕ). (b c : ℕ) → bit_xor (bit_xor n b) c ≡ bit_xor (bit_xor n c) b) xor_comm
-    (λ n ih b c. omega (arith, half n b c ∙ ih (b / 2) (c / 2) ∙ sym (half n c b), odd n b c, odd n c b))
-  where
-    half : (n b c : ℕ) → bit_xor (bit_xor n b) c / 2 ≡ bit_xor (bit_xor (n / 2) (b / 2)) (c / 2)
-    half n b c = xor_shr (bit_xor n b) c 1 ∙ ap (λ k. bit_xor k (c / 2)) (xor_shr n b 1)
-
-    odd : (n b c : ℕ) → bit_xor (bit_xor n b) c % 2 ≡ (n + b + c) % 2
-    odd n b c = omega (arith, xor_odd (bit_xor n b) c, xor_odd n b)
-
-pub xor_assoc : (a b c : ℕ) → bit_xor (bit_xor a b) c ≡ bit_xor a (bit_xor b c)
-xor_assoc a b c = ap (λ k. bit_xor k c) (xor_comm a b) ∙ xor_swap b a c ∙ xor_comm (bit_xor b c) a
+xor_swap a b c = xor_assoc a b c ∙ ap (bit_xor a) (xor_comm b c) ∙ sym (xor_assoc a c b)
 
 -- two sums added are the sums of their parts
 pub xor_four : (a b c d : ℕ) → bit_xor (bit_xor a b) (bit_xor c d) ≡ bit_xor (bit_xor a c) (bit_xor b d)

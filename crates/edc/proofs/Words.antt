@@ -4,15 +4,18 @@ use mathlib.Core.Path.{◌≡◌, refl, sym, ap, ap₂, subst, ◌∙◌}
 use mathlib.Core.List.{List, [], ◌∷◌}
 use Prim.Native.Nat.{ℕ, zero, suc, ◌+◌, ◌*◌, ◌/◌, ◌%◌, ◌^◌, ◌<◌, ◌≤◌}
 use native.Mathlib.Nat.{suc-add, add-zero, zero-add, zero-mul, add_comm, add_assoc, pow-suc}
-use native.Mathlib.Numerals.{one-add}
+use native.Mathlib.Numerals.{one-add, add-one}
 use native.Mathlib.Omega.{arith}
-use lib.Bits.{bit_xor, xor_shifted}
+use lib.Bits.{bit_xor, xor_assoc, xor_shifted}
 use lib.Dec.{lit<}
-use lib.ListN.{length, get_or, drop}
+use lib.ListN.{length, get_or, take, drop}
+use lib.Seq.{drop-cons, drop-drop}
 use lib.Pow.{pow-lt, shr-shr, field, mod-mod-pow, high, low, split}
+use Rattle.std.specs.Int.{w64, from_be_bytes}
+use Rattle.std.specs.Simd.{first_chunks}
 use Rattle.edc.specs.Register.{bit_entered, byte_entered, bytes_entered}
-use Rattle.edc.specs.Words.{word_entered, stands_for, EntersAs}
-use Rattle.edc.proofs.Shifts.{xor_assoc, at_zero, singles}
+use Rattle.edc.specs.Words.{word_entered, stands_for}
+use Rattle.edc.proofs.Shifts.{at_zero, singles}
 use Rattle.edc.proofs.Linear.{word_sum, of_word, word_apart, byte_word}
 use Rattle.edc.proofs.Laws.{bytes_step}
 
@@ -71,21 +74,50 @@ byte_on r xs at k n w h b =
     bytes_step _ _ xs (at + k) h (behind n r w x b)
     ∙ ap (λ (i : ℕ). bytes_entered (word_entered r (n + 8) (w * 256 + x)) (drop i xs)) (add_assoc at k 1)
 
--- four bytes as a word of 32 bits
-pub four_on : (xs : List ℕ) (at v : ℕ) → at + 4 ≤ length xs → ((i : ℕ) → get_or xs i 0 < 256)
-    → v ≡ ((get_or xs at 0 * 256 + get_or xs (at + 1) 0) * 256 + get_or xs (at + 2) 0) * 256 + get_or xs (at + 3) 0
-    → EntersAs xs at 4 v
-four_on xs at v h byte e r =
+-- what eight bytes joined are
+joined : (a b c d e f g h : ℕ) → from_be_bytes w64 (a ∷ b ∷ c ∷ d ∷ e ∷ f ∷ g ∷ h ∷ [])
+    ≡ ((((((a * 256 + b) * 256 + c) * 256 + d) * 256 + e) * 256 + f) * 256 + g) * 256 + h
+joined a b c d e f g h = omega arith
+
+-- the eight bytes from `at` on, as a word
+eight_of : (xs : List ℕ) (at : ℕ) → at + 8 ≤ length xs
+    → take 8 (drop at xs) ≡ get_or xs at 0 ∷ get_or xs (at + 1) 0 ∷ get_or xs (at + 2) 0 ∷ get_or xs (at + 3) 0
+    ∷ get_or xs (at + 4) 0 ∷ get_or xs (at + 5) 0 ∷ get_or xs (at + 6) 0 ∷ get_or xs (at + 7) 0 ∷ []
+eight_of xs at h =
+    rw (
+      first at (at + 1) (omega arith) (omega arith),
+      first (at + 1) (at + 2) (omega arith) (omega arith),
+      first (at + 2) (at + 3) (omega arith) (omega arith),
+      first (at + 3) (at + 4) (omega arith) (omega arith),
+      first (at + 4) (at + 5) (omega arith) (omega arith),
+      first (at + 5) (at + 6) (omega arith) (omega arith),
+      first (at + 6) (at + 7) (omega arith) (omega arith),
+      first (at + 7) (at + 8) (omega arith) (omega arith),
+    )
+  where
+    first : (i j : ℕ) → i < length xs → i + 1 ≡ j → drop i xs ≡ get_or xs i 0 ∷ drop j xs
+    first i j l e = rw (drop-cons xs i 0 l, ← e, add-one i)
+
+pub eight_on : (xs : List ℕ) (at : ℕ) → at + 8 ≤ length xs → ((i : ℕ) → get_or xs i 0 < 256) → (r : ℕ)
+    → bytes_entered r (drop at xs) ≡ bytes_entered (word_entered r 64 (from_be_bytes w64 (take 8 (drop at xs)))) (drop (at + 8) xs)
+eight_on xs at h byte r =
     bytes_step r _ xs at (omega arith) (sym (byte_word r (get_or xs at 0)))
     ∙ byte_on r xs at 1 8 _ (omega arith) (byte (at + 1))
     ∙ byte_on r xs at 2 16 _ (omega arith) (byte (at + 2))
     ∙ byte_on r xs at 3 24 _ (omega arith) (byte (at + 3))
-    ∙ ap (λ k. bytes_entered (word_entered r 32 k) (drop (at + 4) xs)) (sym e)
+    ∙ byte_on r xs at 4 32 _ (omega arith) (byte (at + 4))
+    ∙ byte_on r xs at 5 40 _ (omega arith) (byte (at + 5))
+    ∙ byte_on r xs at 6 48 _ (omega arith) (byte (at + 6))
+    ∙ byte_on r xs at 7 56 _ (omega arith) (byte (at + 7))
+    ∙ ap (λ k. bytes_entered (word_entered r 64 k) (drop (at + 8) xs)) (sym (ap (from_be_bytes w64) (eight_of xs at h) ∙ joined _ _ _ _ _ _ _ _))
 
--- and four behind them as one of 64
-pub eight_on : (xs : List ℕ) (at v w : ℕ) → w < 2 ^ 32 → EntersAs xs at 4 v → EntersAs xs (at + 4) 4 w → EntersAs xs at 8 (v * 2 ^ 32 + w)
-eight_on xs at v w h p q r =
-    p r ∙ q (word_entered r 32 v) ∙ ap₂ (λ k (i : ℕ). bytes_entered k (drop i xs)) (sym (in_turn 32 32 r v w h)) (add_assoc at 4 4)
+-- one of a list's parts of n
+pub part_at : (n k i : ℕ) (xs d : List ℕ) → i < k → get_or (first_chunks n k xs) i d ≡ take n (drop (i * n) xs)
+part_at n zero i xs d h = absurd (omega arith)
+part_at n (suc k) zero xs d h = rw (zero-mul n)
+part_at n (suc k) (suc i) xs d h =
+    let e : n + i * n ≡ suc i * n = omega arith in
+    part_at n k i (drop n xs) d (omega arith) ∙ ap (take n) (drop-drop (i * n) n xs ∙ ap (λ (j : ℕ). drop j xs) e)
 
 -- ---- words that stand for a register
 

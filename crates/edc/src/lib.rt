@@ -2,9 +2,9 @@
 // table: over bits all of it is linear, so a few shifts of the whole register, or of a word that stands for it, do what eight or 64 single ones do.
 #![tactic(auto)]
 
-ghost use Rattle.std.specs.Prelude.{◌+◌, ◌*◌, ◌≤◌, ◌≡◌, length};
+ghost use Rattle.std.specs.Prelude.{◌≡◌};
 ghost use Rattle.edc.specs.Register.{byte_entered};
-ghost use Rattle.edc.specs.Words.{word_entered, stands_for, EntersAs};
+ghost use Rattle.edc.specs.Words.{word_entered, stands_for};
 ghost use Rattle.edc.specs.Outcomes.{IsByteEntered, IsBytesEntered, IsEdc};
 
 // The register prior to operation: all positions are ONE.
@@ -67,47 +67,21 @@ fn reduced(word: u64) -> u16
     ((all ^ ((all << 5) ^ (all << 12))) % 65536) as u16
 }
 
-// Four bytes as one number, the first in its upper byte.
-fn joined(first: u8, second: u8, third: u8, fourth: u8) -> u32
-    ensures { result ≡ ((first * 256 + second) * 256 + third) * 256 + fourth }
-{
-    (first as u32) * 16777216 + (second as u32) * 65536 + (third as u32) * 256 + (fourth as u32)
-}
-
-// The four bytes from `at` on.
-fn four_at(bytes: &[u8], at: usize) -> u32
-    requires { at + 4 ≤ length bytes.now }
-    ensures { EntersAs bytes.now at 4 result }
-{
-    joined(bytes[at], bytes[at + 1], bytes[at + 2], bytes[at + 3])
-}
-
-// The eight bytes from `at` on.
-fn word_at(bytes: &[u8], at: usize) -> u64
-    requires { at + 8 ≤ length bytes.now }
-    ensures { EntersAs bytes.now at 8 result }
-{
-    (four_at(bytes, at) as u64) * 4294967296 + (four_at(bytes, at + 4) as u64)
-}
-
-// The register after bytes, first to last, eight at a time. A byte behind the last eight goes in the outer loop: in one of its own the back end
-// would write its turns out, and no byte of code is to spare.
+// The register after bytes, first to last, eight at a time, and those behind the last eight one at a time. It stands once in the library, and not in each
+// of its callers: the back end writes the turns of the second loop out, and there is no room to spare.
+#[inline(never)]
 pub fn bytes_entered(register: u16, bytes: &[u8]) -> u16
     ensures { IsBytesEntered register bytes.now result }
 {
+    let (eights, rest) = bytes.as_chunks::<8>();
     let mut word = spread(register);
-    let mut i = 0;
-    loop {
-        while i + 7 < bytes.len() {
-            word = folded(word) ^ word_at(bytes, i);
-            i += 8;
-        }
-        if bytes.len() <= i {
-            return reduced(word);
-        }
-        word = pushed(word, bytes[i]);
-        i += 1;
+    for eight in eights {
+        word = folded(word) ^ u64::from_be_bytes(*eight);
     }
+    for byte in rest {
+        word = pushed(word, *byte);
+    }
+    reduced(word)
 }
 
 // The EDC of bytes, from the register's start.

@@ -1,44 +1,29 @@
--- `edc::bytes_entered` meets its contract. The invariant of both loops: from the register that the present word stands for the bytes from
--- `i` on lead where all of them lead from the first. The inner one does not go back, so that what is left of the length falls in both.
-use Prim.Native.Nat.{◌+◌}
-use mathlib.Core.Path.{sym, ap, ◌∙◌}
-use native.Mathlib.Omega.{arith}
-use borrow.Author.Rules.{rules}
-use lib.Bits.{xor_lt}
-use lib.ListN.{drop}
+-- `edc::bytes_entered` meets its contract. The invariant of both loops: from the register that the present word stands for the bytes that are left lead
+-- where all of them lead from the first.
+use Rattle.std.proofs.Common.{◌≡◌, ℕ, ◌+◌, ◌*◌, ◌/◌, [], length, drop, sym, ap, ap₂, ◌∙◌, arith}
+use Rattle.std.specs.Int.{w64, from_be_bytes}
 use Rattle.edc.specs.Register.{bytes_entered}
-use Rattle.edc.specs.Words.{stands_for}
+use Rattle.edc.specs.Words.{word_entered, stands_for}
 use Rattle.edc.proofs.Laws.{bytes_step, bytes_end}
-use Rattle.edc.proofs.Words.{word_on}
+use Rattle.edc.proofs.Words.{eight_on, part_at, word_on}
 use Rattle.edc.proofs.bytes_entered.Goals as goal
 
-pub loop-i-init : goal.loop-i-init
-loop-i-init c = (omega arith, search rules, ap (λ k. bytes_entered k c.args.bytes.now) (sym c.spread-word.ensures))
-
-pub loop-i-2-init : goal.loop-i-2-init
-loop-i-2-init c = (omega arith, c.loop-i.invariant.0, c.loop-i.invariant.1, c.loop-i.invariant.2)
-
-pub loop-i-2-preserved : goal.loop-i-2-preserved
-loop-i-2-preserved c =
+pub loop-eight-preserved : goal.loop-eight-preserved
+loop-eight-preserved c =
+    let l = c.loop-eight in
     let bytes = c.args.bytes.now in
-    let u = c.folded.result in
-    let w = c.word_at.result in (
-      search rules,
-      search rules,
-      xor_lt 64 u w (search rules) (search rules),
-      c.loop-i-2.invariant.3
-          ∙ c.word_at.ensures (stands_for c.loop-i-2.word)
-          ∙ ap (λ k. bytes_entered k (drop (c.loop-i-2.i + 8) bytes)) (sym (word_on c.loop-i-2.word u w c.folded.ensures)),
-    )
+    let at = l.eight-index * 8 in
+    let eights = c.as_chunks.ensures.front in
+    let part = rw (← eights) at (part_at 8 (length bytes / 8) l.eight-index bytes [] (omega arith)) in
+    let word = c.from_be_bytes.ensures ∙ ap (from_be_bytes w64) part in
+    let next : at + 8 ≡ (l.eight-index + 1) * 8 = omega arith in
+    l.invariant
+    ∙ eight_on bytes at (omega arith) (λ i. (c.type_inv.bytes i).fits) (stands_for l.word)
+    ∙ ap₂ (λ k (i : ℕ). bytes_entered k (drop i bytes))
+    (sym (word_on l.word c.folded.result c.from_be_bytes.result c.folded.ensures ∙ ap (word_entered (stands_for l.word) 64) word)) next
 
-pub returns-then-bytes-i : goal.returns-then-bytes-i
-returns-then-bytes-i c =
-    c.reduced.ensures ∙ sym (c.loop-i-2.invariant.3 ∙ bytes_end _ _ _ c.if-bytes-i.true)
+pub loop-byte-preserved : goal.loop-byte-preserved
+loop-byte-preserved c = c.loop-byte.invariant ∙ bytes_step _ _ _ c.loop-byte.byte-index (omega arith) c.pushed-word.ensures
 
-pub loop-i-preserved : goal.loop-i-preserved
-loop-i-preserved c =
-    let bytes = c.args.bytes.now in (
-      search rules,
-      search rules,
-      c.loop-i-2.invariant.3 ∙ bytes_step _ _ bytes c.loop-i-2.i (omega arith) c.pushed-word.ensures,
-    )
+pub returns : goal.returns
+returns c = c.reduced.ensures ∙ sym (c.loop-byte.invariant ∙ bytes_end _ _ c.loop-byte.byte-index (omega arith))
