@@ -8,7 +8,7 @@ ghost use Rattle.coding.specs.Outcomes.{IsCoded};
 use cells::Mode;
 
 // The two image bytes of a data byte.
-#[derive(Clone, Copy)]
+#[derive(Clone, Copy, Debug, PartialEq, Eq)]
 pub struct Pair {
     pub first: u8,
     pub second: u8,
@@ -26,10 +26,7 @@ fn sixteen(mode: Mode, before: u8, byte: u8) -> u16
         Mode::Fm => data | 0xAAAA,
         Mode::Mfm => {
             let cells = data | ((((data << 1) | (data >> 1)) & 0xAAAA) ^ 0xAAAA);
-            if before == 0 {
-                return cells;
-            }
-            cells % 32768
+            if before == 0 { cells } else { cells % 32768 }
         }
     }
 }
@@ -38,9 +35,6 @@ fn sixteen(mode: Mode, before: u8, byte: u8) -> u16
 pub fn coded(mode: Mode, before: u8, byte: u8) -> Pair
     ensures { IsCoded mode before byte result }
 {
-    let cells = sixteen(mode, before, byte);
-    Pair {
-        first: (cells / 256) as u8,
-        second: (cells % 256) as u8,
-    }
+    let [first, second] = sixteen(mode, before, byte).to_be_bytes();
+    Pair { first, second }
 }
