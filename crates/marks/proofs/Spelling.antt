@@ -2,7 +2,7 @@
 use mathlib.Core.Path.{◌≡◌, refl, sym, ap, ap₂, ◌∙◌}
 use mathlib.Core.Bool.{Bool, true, false, ◌&&◌, and-eq-true_iff}
 use mathlib.Core.List.{List, [], ◌∷◌, ◌++◌}
-use Prim.Native.Nat.{ℕ, ◌+◌, ◌-◌, ◌*◌, ◌%◌, ◌<◌, ◌≤◌}
+use Prim.Native.Nat.{ℕ, ◌+◌, ◌-◌, ◌*◌, ◌<◌, ◌≤◌}
 use native.Mathlib.Numerals.{add-one}
 use native.Mathlib.Omega.{arith}
 use lib.Dec.{eqb, leb}
@@ -14,7 +14,7 @@ use Rattle.cells.specs.declared.Mode.{Mode}
 use Rattle.cells.specs.declared.Mode.TheVariants.{Fm, Mfm}
 use Rattle.edc.specs.Register.{bytes_entered, edc_of}
 use Rattle.edc.proofs.Laws.{bytes_append}
-use Rattle.marks.specs.Marks.{string, mark_bytes, mark_last, last_byte, last_bit, covered, register_after, spells, lies, stands}
+use Rattle.marks.specs.Marks.{string, mark_bytes, mark_last, last_byte, covered, register_after, spells, lies, stands}
 use Rattle.marks.specs.declared.Mark.{Mark}
 use Rattle.marks.specs.declared.Mark.TheVariants.{Index, Identifier, Data, Control, Open}
 
@@ -176,20 +176,10 @@ pub stands_by : {mode : Mode} {bs : List ℕ} (m : Mode) (mark : Mark) (c : ℕ 
 unfolding stands
 stands_by m mark c n p r e f g = rw e (rw f at g)
 
--- The same of the last byte; and the last bit is the last cell of a mark.
+-- The same of the last byte.
 pub last_by : {mode : Mode} {bs : List ℕ} (m : Mode) (mark : Mark) → mode ≡ m → bs ≡ string m mark → get_or bs (mark_last m) 0 ≡ last_byte mode mark
 unfolding last_byte
 last_by m mark e f = rw (e, f)
-
-pub last_bit_of : (mark : Mark) {bs : List ℕ} → bs ≡ string Fm mark → get_or bs 1 0 % 2 ≡ last_bit mark
-last_bit_of mark f = rw f (each mark)
-  where
-    each : (mark : Mark) → get_or (string Fm mark) 1 0 % 2 ≡ last_bit mark
-    each Index = refl
-    each Identifier = refl
-    each Data = refl
-    each Control = refl
-    each Open = refl
 
 -- The same of the register once the mark has entered it.
 pub register_by : {mode : Mode} {mark : Mark} (m : Mode) (k : Mark) (r : ℕ) → mode ≡ m → mark ≡ k → r ≡ edc_of (covered m k) → r ≡ register_after mode mark

@@ -11,7 +11,7 @@ ghost use Rattle.marks.specs.Outcomes.{Housed, IsString, AreMarkBytes, IsLastByt
 use cells::Mode;
 
 // The marks: FC, FE, FB, F8, and the house mark F9 of a rewrite under way.
-#[derive(Clone, Copy)]
+#[derive(Clone, Copy, Debug, PartialEq, Eq)]
 pub enum Mark {
     Index,
     Identifier,
@@ -103,13 +103,7 @@ pub fn last_bit(mark: Mark) -> u8
 pub fn is_block(mark: Mark) -> bool
     ensures { TellsBlock mark result }
 {
-    match mark {
-        Mark::Index => false,
-        Mark::Identifier => false,
-        Mark::Data => true,
-        Mark::Control => true,
-        Mark::Open => true,
-    }
+    matches!(mark, Mark::Data | Mark::Control | Mark::Open)
 }
 
 // Whether the cells from `place` on spell the bytes.
@@ -117,12 +111,10 @@ fn spelled(image: &[u8], place: usize, bytes: &[u8]) -> bool
     requires { place + 8 * length bytes.now ≤ 4294967296 }
     ensures { result ≡ spells (cell image.now) place bytes.now }
 {
-    let mut i = 0;
-    while i < bytes.len() {
-        if cells::octet(image, place + 8 * i) != bytes[i] {
+    for (i, byte) in bytes.iter().enumerate() {
+        if cells::octet(image, place + 8 * i) != *byte {
             return false;
         }
-        i += 1;
     }
     true
 }
@@ -134,12 +126,7 @@ fn lying(image: &[u8], place: usize, bytes: &[u8]) -> bool
 {
     let cells = 8 * image.len();
     let width = 8 * bytes.len();
-    if place <= cells {
-        if width <= cells - place {
-            return spelled(image, place, bytes);
-        }
-    }
-    false
+    place <= cells && width <= cells - place && spelled(image, place, bytes)
 }
 
 // Whether the mark stands at `place`.
@@ -181,7 +168,8 @@ pub fn mark_of(byte: u8) -> Mark
     ensures { IsMarkOf byte result }
 {
     if byte as u32 == CONTROL_MARK {
-        return Mark::Control;
+        Mark::Control
+    } else {
+        Mark::Data
     }
-    Mark::Data
 }
