@@ -113,16 +113,6 @@ module _ (mode : Mode) (mark : Mark) (xs area₀ area : List ℕ) (at i last₀ 
         rw register_done (omega arith),
       )
 
--- A turn of the copy.
-pub copy_turn : (area bs : List ℕ) (at i : ℕ) → i < length bs
-    → sets area (at + i) (drop i bs) ≡ sets (set area (at + i) (get_or bs i 0)) (at + (i + 1)) (drop (i + 1) bs)
-copy_turn area bs at i h =
-    let g : suc (at + i) ≡ at + suc i = omega arith in
-    rw (add-one i, drop-cons bs i 0 h, ← g)
-
-pub copy_end : (area bs : List ℕ) (at i : ℕ) → length bs ≤ i → sets area at (drop i bs) ≡ area
-copy_end area bs at i h = rw (drop_of_length-le bs h)
-
 -- A mark's string, in the mode m that an arm of the code knows.
 pub mark_stored : (mode m : Mode) (mark : Mark) (area copied : List ℕ) (at : ℕ) {after : List ℕ} {behind : ℕ}
     → mode ≡ m → copied ≡ string m mark → after ≡ sets area at copied → behind ≡ at + length copied

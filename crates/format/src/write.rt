@@ -49,12 +49,9 @@ fn write_string(string: &[u8], area: &mut [u8], at: usize) -> usize
     ensures written { area.new ≡ sets area.old at string.now }
     ensures behind { result ≡ at + length string.now }
 {
-    let mut i = 0;
-    while i < string.len() {
-        area[at + i] = string[i];
-        i += 1;
-    }
-    at + string.len()
+    let behind = at + string.len();
+    area[at..behind].copy_from_slice(string);
+    behind
 }
 
 // A mark; there is room for the longer ones in either mode. The answer is the byte behind it.
