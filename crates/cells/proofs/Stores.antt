@@ -1,8 +1,6 @@
--- Laws of stores into a list: runs of them one behind the other, a run that fills the list, a run of zeros,
--- and a part that was lent and comes back filled.
-use Rattle.std.proofs.Common.{◌≡◌, ℕ, suc, ◌+◌, ◌-◌, ◌<◌, ◌≤◌, List, [], ◌∷◌, ◌++◌, length, take, drop, set, replicate, sym, ap, ◌∙◌, append_assoc, append-nil, add-zero, add-one, arith, length-drop, drop_of_length-le, length-take-le, drop-drop}
+-- Laws of stores into a list: runs of them one behind the other, a run that fills the list, and a part that was lent and comes back filled.
+use Rattle.std.proofs.Common.{◌≡◌, ℕ, suc, ◌+◌, ◌-◌, ◌≤◌, List, [], ◌∷◌, ◌++◌, length, take, drop, set, sym, ◌∙◌, append_assoc, append-nil, add-zero, arith, length-drop, drop_of_length-le, length-take-le, drop-drop}
 use borrow.Rule.Slice.PartMut.{put_mid}
-use lib.ListN.{length-replicate}
 use lib.Seq.{sets, sets-eq}
 
 -- Two runs of stores, one behind the other.
@@ -30,16 +28,3 @@ pub part_length : (l : List ℕ) (a w : ℕ) → a + w ≤ length l → length (
 part_length l a w h =
     let e : a + w - a ≡ w = omega arith in
     rw e (length-take-le w (drop a l) (omega (arith, length-drop a l)))
-
--- ---- zeros up to byte n, stored from byte i on
-
-pub zero_turn : (area : List ℕ) (n i : ℕ) → i < n → sets area i (replicate (n - i) 0) ≡ sets (set area i 0) (i + 1) (replicate (n - (i + 1)) 0)
-zero_turn area n i h =
-    let e : n - i ≡ suc (n - (i + 1)) = omega arith in
-    ap (λ (k : ℕ). sets area i (replicate k 0)) e ∙ rw (add-one i)
-
-pub zero_end : (area : List ℕ) (n i : ℕ) → n ≤ i → sets area i (replicate (n - i) 0) ≡ area
-zero_end area n i h = let e : n - i ≡ 0 = omega arith in rw e
-
-pub zero_whole : (area : List ℕ) → sets area 0 (replicate (length area) 0) ≡ replicate (length area) 0
-zero_whole area = sets_whole area (replicate (length area) 0) (length-replicate (length area) 0)

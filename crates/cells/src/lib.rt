@@ -10,14 +10,14 @@ ghost use Rattle.cells.specs.Outcomes.{IsOctet, IsDataByte, IsReadByte, AreReadB
 mod runs;
 
 // The two modes of recording (004, 4.1).
-#[derive(Clone, Copy)]
+#[derive(Clone, Copy, Debug, PartialEq, Eq)]
 pub enum Mode {
     Fm,
     Mfm,
 }
 
 // What reading one byte tells.
-#[derive(Clone, Copy)]
+#[derive(Clone, Copy, Debug, PartialEq, Eq)]
 pub struct ReadByte {
     pub byte: u8,
     // how many of its eight clock cells are doubtful: not those of the mode's rule
@@ -25,7 +25,7 @@ pub struct ReadByte {
 }
 
 // What reading bytes into an area tells besides them.
-#[derive(Clone, Copy)]
+#[derive(Clone, Copy, Debug, PartialEq, Eq)]
 pub struct ReadBytes {
     // how many of their clock cells are doubtful
     pub clocks: u32,
@@ -35,10 +35,7 @@ pub struct ReadBytes {
 fn byte_or_zero(image: &[u8], at: usize) -> u8
     ensures { result ≡ slice_index image.now at }
 {
-    if at < image.len() {
-        return image[at];
-    }
-    0
+    image.get(at).copied().unwrap_or(0)
 }
 
 // The eight cells that begin `shift` cells into two image bytes.
@@ -46,7 +43,7 @@ fn window(first: u8, second: u8, shift: usize) -> u8
     requires { shift < 8 }
     ensures { result ≡ (first * 256 + second) / 2 ^ (8 - shift) % 256 }
 {
-    let both = (first as u32) * 256 + (second as u32);
+    let both = u16::from_be_bytes([first, second]);
     ((both >> (8 - shift)) % 256) as u8
 }
 
@@ -66,8 +63,7 @@ fn wide_window(first: u8, second: u8, third: u8, fourth: u8, shift: usize) -> u1
     requires { shift < 8 }
     ensures { result ≡ (first * 65536 + second * 256 + third) / 2 ^ (8 - shift) % 65536 }
 {
-    let upper = (first as u32) * 16777216 + (second as u32) * 65536;
-    let all = upper + (third as u32) * 256 + (fourth as u32);
+    let all = u32::from_be_bytes([first, second, third, fourth]);
     ((all >> (16 - shift)) % 65536) as u16
 }
 
@@ -144,10 +140,7 @@ pub(crate) fn right_clocks(mode: Mode, earlier: u16, cells: u16) -> u16
 fn bit_before(before: u8) -> u16
     ensures { (before ≡ 0 → result ≡ 0) × ((before ≢ 0) → result ≡ 32768) × (result ≤ 32768) }
 {
-    if before == 0 {
-        return 0;
-    }
-    32768
+    if before == 0 { 0 } else { 32768 }
 }
 
 // The byte of the sixteen cells that begin `shift` cells into the image byte `at`, and its doubtful clock cells after the bit `before`. Counted by the
@@ -160,7 +153,7 @@ pub(crate) fn byte_from(mode: Mode, before: u8, image: &[u8], at: usize, shift: 
     let right = right_clocks(mode, bit_before(before) + cells / 2, cells);
     ReadByte {
         byte: together(cells),
-        clocks: 8 - u32::count_ones((right & 0xAAAA) as u32),
+        clocks: 8 - (right & 0xAAAA).count_ones(),
     }
 }
 
@@ -181,12 +174,12 @@ pub fn read_bytes(mode: Mode, before: u8, image: &[u8], place: usize, bytes: &mu
     }
     let at = (place - 1) / 8;
     let shift = (place - 1) % 8;
-    if at < image.len() {
-        if (bytes.len() <= (image.len() - at - 1) / 2) & (bytes.len() < 8192) {
-            if runs::cell_at(image, at, shift) == before {
-                return runs::fill_by_mode(mode, image, at, shift, bytes);
-            }
-        }
+    if at < image.len()
+        && bytes.len() <= (image.len() - at - 1) / 2
+        && bytes.len() < 8192
+        && runs::cell_at(image, at, shift) == before
+    {
+        return runs::fill_by_mode(mode, image, at, shift, bytes);
     }
     runs::fill_by_bytes(mode, before, image, place / 8, place % 8, bytes)
 }
@@ -195,9 +188,5 @@ pub fn read_bytes(mode: Mode, before: u8, image: &[u8], place: usize, bytes: &mu
 pub fn clear(area: &mut [u8])
     ensures { AreZeros (length area.old) area.new }
 {
-    let mut done = 0;
-    while done < area.len() {
-        area[done] = 0;
-        done += 1;
-    }
+    area.fill(0);
 }

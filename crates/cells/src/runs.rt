@@ -13,7 +13,7 @@ fn word_at(image: &[u8], at: usize) -> u16
     requires { at + 1 < length image.now }
     ensures { result ≡ slice_index image.now at + slice_index image.now (at + 1) * 256 }
 {
-    (image[at] as u16) + (image[at + 1] as u16) * 256
+    u16::from_le_bytes([image[at], image[at + 1]])
 }
 
 // The lowest `count` bits of both halves of a word.
@@ -60,15 +60,13 @@ fn fill_by_words(mode: Mode, image: &[u8], at: usize, shift: usize, bytes: &mut 
     ensures { IsRunRead mode image.now at shift (length bytes.old) result bytes.new }
 {
     let mut right: u16 = 0;
-    let mut i = 0;
-    while i < bytes.len() {
+    for (i, byte) in bytes.iter_mut().enumerate() {
         let from = at + 2 * i;
         let word = word_at(image, from);
         let next = word_at(image, from + 1);
         let cells = word_window(word, next, shift + 1);
-        bytes[i] = word_data(cells);
+        *byte = word_data(cells);
         right += right_in_word(mode, word_window(word, next, shift), cells);
-        i += 1;
     }
     ReadBytes {
         clocks: (8 * bytes.len() - right as usize) as u32,
@@ -107,16 +105,14 @@ pub(crate) fn fill_by_bytes(
     let mut clocks: u32 = 0;
     let mut last = before;
     let mut from = at;
-    let mut i = 0;
-    while i < bytes.len() {
+    for byte in bytes.iter_mut() {
         let read = byte_from(mode, last, image, from, shift);
-        bytes[i] = read.byte;
-        clocks = std::num::wrapping_add_u32(clocks, read.clocks);
+        *byte = read.byte;
+        clocks = clocks.wrapping_add(read.clocks);
         last = read.byte % 2;
         if from < image.len() {
             from += 2;
         }
-        i += 1;
     }
     ReadBytes { clocks }
 }

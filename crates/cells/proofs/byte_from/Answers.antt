@@ -1,14 +1,10 @@
 -- `byte_from` meets its contract: the bit before comes before the first of the sixteen cells, and they follow it.
 use Rattle.std.proofs.Common.{ℕ, ◌+◌, ◌*◌, ◌/◌, ◌∙◌, ap₂, arith, rules}
-use lib.Bits.{and_le_r}
 use Rattle.cells.specs.Cells.{cell}
 use Rattle.cells.proofs.Clocks.{sixteen_clocks}
 use Rattle.cells.proofs.Halves.{counted, ones_right}
 use Rattle.cells.proofs.Joined.{cell_lt, sixteen_data}
 use Rattle.cells.proofs.byte_from.Goals as goal
-
-pub overflow_cast-result : goal.overflow_cast-result
-overflow_cast-result c = omega (arith, and_le_r c.right_clocks-right.result 0xAAAA)
 
 pub overflow_sub-result : goal.overflow_sub-result
 overflow_sub-result c =

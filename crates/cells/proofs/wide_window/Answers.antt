@@ -7,5 +7,5 @@ pub returns : goal.returns
 returns c =
     let a = c.args in
     let x = a.first * 65536 + a.second * 256 + a.third in
-    let all : a.first * 16777216 + a.second * 65536 + a.third * 256 + a.fourth ≡ x * 256 + a.fourth = omega arith in
+    let all : c.from_be_bytes-all.result ≡ x * 256 + a.fourth = omega (arith, c.from_be_bytes-all.ensures) in
     ap (λ (w : ℕ). w / 2 ^ (16 - a.shift) % 65536) all ∙ ap (λ (w : ℕ). w % 65536) (fourth_falls x a.fourth a.shift (omega arith) (omega arith))

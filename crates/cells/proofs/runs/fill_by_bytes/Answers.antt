@@ -1,7 +1,7 @@
 -- `fill_by_bytes` meets its contract: what is left to store and to count from byte i on ends where the whole does. Past the image's end the place no
 -- longer matters.
-use Rattle.std.proofs.Common.{◌≡◌, ℕ, ◌+◌, ◌-◌, ◌*◌, ◌%◌, ◌^◌, ◌<◌, ◌≤◌, List, length, refl, ap, ◌∙◌, add-zero, add_assoc, zero-add, arith, length-set, rules}
-use native.Mathlib.Nat.{sub-zero, mod-add-mod}
+use Rattle.std.proofs.Common.{◌≡◌, ℕ, ◌+◌, ◌-◌, ◌*◌, ◌%◌, ◌^◌, ◌<◌, ◌≤◌, List, length, refl, ap, ◌∙◌, add-zero, add_assoc, arith, rules}
+use native.Mathlib.Nat.{mod-add-mod}
 use lib.Seq.{sets}
 use Rattle.cells.specs.Cells.{cell, data_bytes, byte_clocks, bytes_clocks}
 use Rattle.cells.specs.declared.Mode.{Mode}
@@ -42,42 +42,36 @@ counts mode c a b q i n sum more new rest total h g m e f t =
 kept : (x : ℕ) → x < 2 ^ 32 → x ≡ x % 2 ^ 32
 kept x h = omega arith
 
-pub loop-i-init : goal.loop-i-init
-loop-i-init c = (search rules, refl, search rules, rw sub-zero, rw (sub-zero, zero-add), search rules)
-
-pub loop-i-preserved : goal.loop-i-preserved
-loop-i-preserved c =
-    let l = c.loop-i in
-    let h = c.loop-i-test.true in
+pub loop-byte-preserved : goal.loop-byte-preserved
+loop-byte-preserved c =
+    let l = c.loop-byte in
     let a = c.args in
     let s = a.image.now in
     let read = c.byte_from-read in
-    let n = length a.bytes.now - (l.i + 1) in
-    let within : l.i < length a.bytes.now = omega (arith, h, l.invariant.1) in
+    let n = length a.bytes.now - (l.byte-index + 1) in
+    let within : l.byte-index < length a.bytes.now = omega arith in
     let byte = ap (λ (r : ReadByte). r.byte) read.ensures.0 in
     let count = ap (λ (r : ReadByte). r.clocks) read.ensures.0 in
     let next : Onward a.mode s l.from c.if-from-image.from a.shift n = elim c.if-from-image.branch [
       | then-from-image w ↦ moves a.mode s l.from c.if-from-image.from a.shift n (search rules) w.if-from-image.true w.from-is
-      | else-from-image w ↦ rests a.mode s l.from c.if-from-image.from a.shift n l.invariant.2 w.if-from-image.false w.from-is
-    ] in (
-      search rules,
-      simp length-set l.invariant.1,
-      next.0,
-      l.invariant.3 ∙ fill_turn _ _ _ _ _ _ _ (omega arith) byte refl ∙ ap (sets _ _) next.1,
-      counts a.mode (cell s) l.last (read.result.byte % 2) (8 * l.from + a.shift) l.i (length a.bytes.now) l.clocks read.result.clocks
+      | else-from-image w ↦ rests a.mode s l.from c.if-from-image.from a.shift n l.invariant.onward w.if-from-image.false w.from-is
+    ] in record {
+      onward = next.0;
+      stored = l.invariant.stored ∙ fill_turn _ _ _ _ _ _ _ within byte refl ∙ ap (sets _ _) next.1;
+      counted =
+          counts a.mode (cell s) l.last (read.result.byte % 2) (8 * l.from + a.shift) l.byte-index (length a.bytes.now) l.clocks read.result.clocks
           _ _ _ within (ap (λ (x : ℕ). x % 2) byte ∙ last_bit_lem a.mode (cell s) (cell_lt s) _)
-          count c.wrapping_add_u32-clocks.ensures.value (next.2 _) l.invariant.4,
-      search rules,
-    )
+          count refl (next.2 _) l.invariant.counted;
+    }
 
 pub returns : goal.returns
 returns c =
     let a = c.args in
-    let l = c.loop-i in
+    let l = c.loop-byte in
     let n = length a.bytes.now in
-    let past : n ≤ l.i = omega (arith, c.loop-i-test.false, l.invariant.1) in
-    let sum = rw (clocks_end a.mode (cell a.image.now) _ _ l.i n past, add-zero) at l.invariant.4 in
+    let past : n ≤ l.byte-index = omega arith in
+    let sum = rw (clocks_end a.mode (cell a.image.now) _ _ l.byte-index n past, add-zero) at l.invariant.counted in
     record {
-      bytes = fill_whole _ _ _ _ n a.bytes.now l.bytes refl past l.invariant.3;
-      clocks = kept l.clocks l.invariant.5 ∙ sum;
+      bytes = fill_whole _ _ _ _ n a.bytes.now l.bytes refl past l.invariant.stored;
+      clocks = kept l.clocks (search rules) ∙ sum;
     }

@@ -5,13 +5,10 @@ use Rattle.cells.specs.Cells.{cell, data_bytes, bytes_clocks}
 use Rattle.cells.proofs.runs.fill_by_words.Given as goal
 
 abbrev pub invariant-loop-i : goal.invariant-loop-i
-invariant-loop-i l =
-    (l.i ≤ length l.initial.bytes) × (length l.bytes ≡ length l.initial.bytes)
-    × (sets l.initial.bytes 0 (data_bytes (cell l.image) (8 * l.at + l.shift + 1) (length l.initial.bytes))
-    ≡ sets l.bytes l.i (data_bytes (cell l.image) (8 * (l.at + 2 * l.i) + l.shift + 1) (length l.initial.bytes - l.i)))
-    × (8 * l.i - l.right + bytes_clocks l.mode (cell l.image) (cell l.image (8 * (l.at + 2 * l.i) + l.shift)) (8 * (l.at + 2 * l.i) + l.shift + 1) (length l.initial.bytes - l.i)
-    ≡ bytes_clocks l.mode (cell l.image) (cell l.image (8 * l.at + l.shift)) (8 * l.at + l.shift + 1) (length l.initial.bytes))
-    × (l.right ≤ 8 * l.i)
-
-abbrev pub decreases-loop-i : goal.decreases-loop-i
-decreases-loop-i l = length l.initial.bytes - l.i
+invariant-loop-i l = record {
+  stored : sets l.initial.bytes 0 (data_bytes (cell l.image) (8 * l.at + l.shift + 1) (length l.initial.bytes))
+      ≡ sets l.bytes l.i (data_bytes (cell l.image) (8 * (l.at + 2 * l.i) + l.shift + 1) (length l.initial.bytes - l.i));
+  counted : 8 * l.i - l.right + bytes_clocks l.mode (cell l.image) (cell l.image (8 * (l.at + 2 * l.i) + l.shift)) (8 * (l.at + 2 * l.i) + l.shift + 1) (length l.initial.bytes - l.i)
+      ≡ bytes_clocks l.mode (cell l.image) (cell l.image (8 * l.at + l.shift)) (8 * l.at + l.shift + 1) (length l.initial.bytes);
+  small : l.right ≤ 8 * l.i;
+}
