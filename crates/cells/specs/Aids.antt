@@ -3,7 +3,6 @@
 use Rattle.std.specs.Prelude.{ℕ, ◌+◌, ◌*◌, ◌/◌, ◌%◌, ◌<◌, List, length, bit_and, bit_or, bit_xor}
 use Rattle.cells.specs.Cells.{cell, doubt}
 use Rattle.cells.specs.Outcomes.{AreReadBytes}
-use Rattle.cells.specs.declared.ReadBytes.{ReadBytes}
 use Rattle.cells.specs.declared.Mode.{Mode}
 use Rattle.cells.specs.declared.Mode.TheVariants.{Fm, Mfm}
 
@@ -34,5 +33,5 @@ abbrev pub Served : List ℕ → (at shift count : ℕ) → Type 0
 Served image at shift count = (shift < 8) × (at + 2 * count < length image) × (count < 8192)
 
 -- It is read, after the bit that stands before it.
-abbrev pub IsRunRead : Mode → List ℕ → (at shift count : ℕ) → ReadBytes → List ℕ → Type 0
+abbrev pub IsRunRead : Mode → List ℕ → (at shift count : ℕ) → (answer : ℕ) → List ℕ → Type 0
 IsRunRead mode image at shift = AreReadBytes mode (cell image (8 * at + shift)) image (8 * at + shift + 1)

@@ -3,7 +3,6 @@ use Rattle.std.specs.Prelude.{◌≡◌, ℕ, ◌%◌, ◌^◌, ◌≤◌, List,
 use Rattle.cells.specs.Cells.{cell, octet, data_byte, data_bytes, byte_clocks, bytes_clocks}
 use Rattle.cells.specs.declared.Mode.{Mode}
 use Rattle.cells.specs.declared.ReadByte.{ReadByte}
-use Rattle.cells.specs.declared.ReadBytes.{ReadBytes}
 
 -- `octet` answers the eight cells from a place on.
 abbrev pub IsOctet : List ℕ → ℕ → ℕ → Type 0
@@ -24,9 +23,9 @@ IsReadByte mode before image place answer = (answer ≡ read_byte mode (cell ima
 
 -- `read_bytes` leaves the area filled with the data bytes from a place on, as many as it has room for, and answers how many of their clock cells are
 -- doubtful: the number's lowest 32 bits, so that there is an answer for areas of 2^29 bytes and above too.
-pub record AreReadBytes (mode : Mode) (before : ℕ) (image : List ℕ) (place room : ℕ) (answer : ReadBytes) (exit : List ℕ) : Type 0 where
+pub record AreReadBytes (mode : Mode) (before : ℕ) (image : List ℕ) (place room answer : ℕ) (exit : List ℕ) : Type 0 where
   pub bytes : exit ≡ data_bytes (cell image) place room
-  pub clocks : answer.clocks ≡ bytes_clocks mode (cell image) before place room % 2 ^ 32
+  pub clocks : answer ≡ bytes_clocks mode (cell image) before place room % 2 ^ 32
 
 -- `clear` leaves the area filled with zeros.
 abbrev pub AreZeros : ℕ → List ℕ → Type 0

@@ -24,13 +24,6 @@ pub struct ReadByte {
     pub clocks: u32,
 }
 
-// What reading bytes into an area tells besides them.
-#[derive(Clone, Copy, Debug, PartialEq, Eq)]
-pub struct ReadBytes {
-    // how many of their clock cells are doubtful
-    pub clocks: u32,
-}
-
 // The image byte at an index, or 0 past the end.
 fn byte_or_zero(image: &[u8], at: usize) -> u8
     ensures { result ≡ slice_index image.now at }
@@ -164,9 +157,10 @@ pub fn read_byte(mode: Mode, before: u8, image: &[u8], place: usize) -> ReadByte
     byte_from(mode, before, image, place / 8, place % 8)
 }
 
-// Reads into the area the bytes from `place` on, the first of them after the bit `before`: 0 is ZERO, anything else ONE. One test tells that all their
-// image bytes are there and that the sum fits in sixteen bits, and one that the bit before is what stands before them, as it does behind a mark.
-pub fn read_bytes(mode: Mode, before: u8, image: &[u8], place: usize, bytes: &mut [u8]) -> ReadBytes
+// Reads into the area the bytes from `place` on, the first of them after the bit `before`: 0 is ZERO, anything else ONE. The answer is how many of their
+// clock cells are doubtful. One test tells that all their image bytes are there and that the sum fits in sixteen bits, and one that the bit before is
+// what stands before them, as it does behind a mark.
+pub fn read_bytes(mode: Mode, before: u8, image: &[u8], place: usize, bytes: &mut [u8]) -> u32
     ensures { AreReadBytes mode before image.now place (length bytes.old) result bytes.new }
 {
     if place == 0 {

@@ -5,7 +5,7 @@ ghost use Rattle.cells.specs.Cells.{cell, byte_of};
 ghost use Rattle.cells.specs.Aids.{word_clocks, Served, IsRunRead};
 ghost use Rattle.cells.specs.Outcomes.{AreReadBytes};
 
-use super::{Mode, ReadBytes, byte_from, nibbles, right_clocks};
+use super::{Mode, byte_from, nibbles, right_clocks};
 
 // Two image bytes as a word, the first in its lower half, as the processor takes them from memory. By itself, so that the back end makes one
 // load of the two before it sees that words overlap.
@@ -55,7 +55,7 @@ fn right_in_word(mode: Mode, earlier: u16, cells: u16) -> u16
 // Reads into the area the bytes that begin one cell behind the one that is `shift` cells into the image byte `at`, and is the bit before them, where all
 // their image bytes are there and the sum fits. No turn waits for another but to add its count, none branches, and all is done in sixteen bits: so the
 // back end makes eight bytes at once, in FM sixteen.
-fn fill_by_words(mode: Mode, image: &[u8], at: usize, shift: usize, bytes: &mut [u8]) -> ReadBytes
+fn fill_by_words(mode: Mode, image: &[u8], at: usize, shift: usize, bytes: &mut [u8]) -> u32
     requires { Served image.now at shift (length bytes.old) }
     ensures { IsRunRead mode image.now at shift (length bytes.old) result bytes.new }
 {
@@ -68,9 +68,7 @@ fn fill_by_words(mode: Mode, image: &[u8], at: usize, shift: usize, bytes: &mut 
         *byte = word_data(cells);
         right += right_in_word(mode, word_window(word, next, shift), cells);
     }
-    ReadBytes {
-        clocks: (8 * bytes.len() - right as usize) as u32,
-    }
+    (8 * bytes.len() - right as usize) as u32
 }
 
 // The same by a loop for each mode: that of FM asks for no bit before.
@@ -80,7 +78,7 @@ pub(crate) fn fill_by_mode(
     at: usize,
     shift: usize,
     bytes: &mut [u8],
-) -> ReadBytes
+) -> u32
     requires { Served image.now at shift (length bytes.old) }
     ensures { IsRunRead mode image.now at shift (length bytes.old) result bytes.new }
 {
@@ -98,7 +96,7 @@ pub(crate) fn fill_by_bytes(
     at: usize,
     shift: usize,
     bytes: &mut [u8],
-) -> ReadBytes
+) -> u32
     requires { (shift < 8) × (at + 3 < 2 ^ 64) }
     ensures { AreReadBytes mode before image.now (8 * at + shift) (length bytes.old) result bytes.new }
 {
@@ -114,7 +112,7 @@ pub(crate) fn fill_by_bytes(
             from += 2;
         }
     }
-    ReadBytes { clocks }
+    clocks
 }
 
 // The cell that is `shift` cells into the image byte `at`.

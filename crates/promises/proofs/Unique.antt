@@ -7,7 +7,6 @@ use Rattle.std.specs.Prelude.{⊤, Result}
 use Rattle.cells.specs.Outcomes.{IsOctet, IsDataByte, IsReadByte, AreReadBytes, AreZeros}
 use Rattle.coding.specs.Outcomes.{IsCoded}
 use Rattle.cells.specs.declared.Mode.{Mode}
-use Rattle.cells.specs.declared.ReadBytes.{ReadBytes}
 use Rattle.edc.specs.Outcomes.{IsByteEntered, IsBytesEntered, IsEdc}
 use Rattle.format.specs.Outcomes.{Formats}
 use Rattle.calls.specs.Outcomes.{IsTested, IsCheckedNumber, IsRefusalNumber, IsImageLength, IsAreaLength, IsMarkByte, IsControlRecord, IsSectorNumber}
@@ -61,12 +60,8 @@ pub read_byte : (mode : Mode) (before : ℕ) (image : List ℕ) (place : ℕ) �
 read_byte mode before image place x y p q = p.0 ∙ sym q.0
 
 pub read_bytes : (mode : Mode) (before : ℕ) (image : List ℕ) (place room : ℕ)
-    → Unique (λ (o : ReadBytes × List ℕ). AreReadBytes mode before image place room o.0 o.1)
-read_bytes mode before image place room x y p q =
-    by_values _ _ x y (ap counted p.clocks, p.bytes) (ap counted q.clocks, q.bytes)
-  where
-    counted : ℕ → ReadBytes
-    counted clocks = record { clocks = clocks }
+    → Unique (λ (o : ℕ × List ℕ). AreReadBytes mode before image place room o.0 o.1)
+read_bytes mode before image place room x y p q = by_values _ _ x y (p.clocks, p.bytes) (q.clocks, q.bytes)
 
 pub clear : (room : ℕ) → Unique (AreZeros room)
 clear room = by_value _

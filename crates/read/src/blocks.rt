@@ -35,14 +35,14 @@ fn decode(mode: Mode, mark: Mark, image: &[u8], place: usize, slot: &mut [u8]) -
     requires { (place + 16 * length slot.old ≤ 4294967296) × (1 ≤ length slot.old) }
     ensures { Decodes mode mark (cell image.now) place (length slot.old) result.high result.low result.clocks slot.new }
 {
-    let read = cells::read_bytes(mode, marks::last_bit(mark), image, place, slot);
+    let clocks = cells::read_bytes(mode, marks::last_bit(mark), image, place, slot);
     let end = place + 16 * slot.len();
     let high = cells::read_byte(mode, slot[slot.len() - 1] % 2, image, end);
     let low = cells::read_byte(mode, high.byte % 2, image, end + 16);
     Decoded {
         high: high.byte,
         low: low.byte,
-        clocks: read.clocks + high.clocks + low.clocks,
+        clocks: clocks + high.clocks + low.clocks,
     }
 }
 

@@ -17,8 +17,8 @@ overflow_add-result c =
     let few : length a.slot.now ≤ 268435456 = omega (arith, c.requires.0) in
     omega (
       arith,
-      (sum_fits a.mode (cell s) (cell_lt s) (last_bit a.mark) a.place (length a.slot.now) c.read_bytes-read.result.clocks few
-          (rw c.last_bit.ensures at c.read_bytes-read.ensures.clocks)).1,
+      (sum_fits a.mode (cell s) (cell_lt s) (last_bit a.mark) a.place (length a.slot.now) c.read_bytes-clocks.result few
+          (rw c.last_bit.ensures at c.read_bytes-clocks.ensures.clocks)).1,
       c.read_byte-high.ensures.1,
     )
 
@@ -29,8 +29,8 @@ overflow_add-result-2 c =
     let few : length a.slot.now ≤ 268435456 = omega (arith, c.requires.0) in
     omega (
       arith,
-      (sum_fits a.mode (cell s) (cell_lt s) (last_bit a.mark) a.place (length a.slot.now) c.read_bytes-read.result.clocks few
-          (rw c.last_bit.ensures at c.read_bytes-read.ensures.clocks)).1,
+      (sum_fits a.mode (cell s) (cell_lt s) (last_bit a.mark) a.place (length a.slot.now) c.read_bytes-clocks.result few
+          (rw c.last_bit.ensures at c.read_bytes-clocks.ensures.clocks)).1,
       c.read_byte-high.ensures.1,
       c.read_byte-low.ensures.1,
     )
@@ -43,17 +43,17 @@ returns c =
     let few : k ≤ 268435456 = omega (arith, c.requires.0) in
     let high = c.read_byte-high in
     let low = c.read_byte-low in
-    let slot = c.read_bytes-read.new.bytes in
-    let long = c.read_bytes-read.auto.bytes in
-    let sum = (sum_fits a.mode (cell s) (cell_lt s) (last_bit a.mark) a.place k c.read_bytes-read.result.clocks few
-    (rw c.last_bit.ensures at c.read_bytes-read.ensures.clocks)).0 in
+    let slot = c.read_bytes-clocks.new.bytes in
+    let long = c.read_bytes-clocks.auto.bytes in
+    let sum = (sum_fits a.mode (cell s) (cell_lt s) (last_bit a.mark) a.place k c.read_bytes-clocks.result few
+    (rw c.last_bit.ensures at c.read_bytes-clocks.ensures.clocks)).0 in
     let byte = ap (λ (r : ReadByte). r.byte) high.ensures.0 in (
-      c.read_bytes-read.ensures.bytes,
+      c.read_bytes-clocks.ensures.bytes,
       byte ∙ ap (λ (n : ℕ). data_byte (cell s) (a.place + 16 * n)) long,
       ap (λ (r : ReadByte). r.byte) low.ensures.0 ∙ ap (λ (n : ℕ). data_byte (cell s) (a.place + 16 * n + 16)) long,
-      sum_decoded a.mode (cell s) (cell_lt s) (last_bit a.mark) a.place (length slot) c.read_bytes-read.result.clocks high.result.clocks
+      sum_decoded a.mode (cell s) (cell_lt s) (last_bit a.mark) a.place (length slot) c.read_bytes-clocks.result high.result.clocks
           low.result.clocks (get_or slot (length slot - 1) 0 % 2) (high.result.byte % 2) slot (rw long c.requires.1)
-          (c.read_bytes-read.ensures.bytes ∙ ap (data_bytes (cell s) a.place) (sym long)) refl (ap (λ (x : ℕ). x % 2) byte)
+          (c.read_bytes-clocks.ensures.bytes ∙ ap (data_bytes (cell s) a.place) (sym long)) refl (ap (λ (x : ℕ). x % 2) byte)
           (sum ∙ ap (bytes_clocks a.mode (cell s) (last_bit a.mark) a.place) (sym long))
           (ap (λ (r : ReadByte). r.clocks) high.ensures.0) (ap (λ (r : ReadByte). r.clocks) low.ensures.0)
           ∙ ap (λ (n : ℕ). bytes_clocks a.mode (cell s) (last_bit a.mark) a.place (n + 2)) long,
