@@ -71,29 +71,33 @@ pub fn unread_records() -> [Record; MOST_SECTORS]
 }
 
 // The number that the papers give a fault.
-pub fn fault_number(fault: Fault) -> u8
-    ensures { IsFaultNumber fault result }
-{
-    match fault {
-        Fault::NoIdentifier => 21,
-        Fault::Doubled => 22,
-        Fault::NoBlock => 23,
-        Fault::PastEnd => 24,
-        Fault::OpenMark => 25,
-        Fault::WrongEdc => 26,
-        Fault::ForbiddenLetter => 27,
+impl From<Fault> for u8 {
+    ghost from_gives = { IsFaultNumber };
+
+    fn from(fault: Fault) -> u8 {
+        match fault {
+            Fault::NoIdentifier => 21,
+            Fault::Doubled => 22,
+            Fault::NoBlock => 23,
+            Fault::PastEnd => 24,
+            Fault::OpenMark => 25,
+            Fault::WrongEdc => 26,
+            Fault::ForbiddenLetter => 27,
+        }
     }
 }
 
 // The number that the papers give an answer.
-pub fn answer_number(answer: Answer) -> u8
-    ensures { IsAnswerNumber answer result }
-{
-    match answer {
-        Answer::Refused(fault) => fault_number(fault),
-        Answer::Data => 1,
-        Answer::Control => 2,
-        Answer::Defective => 3,
+impl From<Answer> for u8 {
+    ghost from_gives = { IsAnswerNumber };
+
+    fn from(answer: Answer) -> u8 {
+        match answer {
+            Answer::Refused(fault) => u8::from(fault),
+            Answer::Data => 1,
+            Answer::Control => 2,
+            Answer::Defective => 3,
+        }
     }
 }
 
@@ -126,25 +130,14 @@ pub fn is_answer(number: u8) -> bool
 pub fn carries_bytes(answer: Answer) -> bool
     ensures { TellsCarrying answer result }
 {
-    match answer {
-        Answer::Refused(_) => false,
-        Answer::Data => true,
-        Answer::Control => true,
-        Answer::Defective => true,
-    }
+    !matches!(answer, Answer::Refused(_))
 }
 
 // Whether the mark is that of a control record.
 fn is_control(mark: Mark) -> bool
     ensures { result ≡ eqb (mark_byte mark) (mark_byte Control) }
 {
-    match mark {
-        Mark::Index => false,
-        Mark::Identifier => false,
-        Mark::Data => false,
-        Mark::Control => true,
-        Mark::Open => false,
-    }
+    mark == Mark::Control
 }
 
 // What a whole block answers after its mark, data or control, by its first data byte and whether its EDC is right. The tests stand in the order of the

@@ -31,7 +31,7 @@ fn print_answers(rt: &impl Print, sectors: usize, records: [Record; MOST_SECTORS
     let mut index = 0;
     while index < MOST_SECTORS {
         if index < sectors {
-            let number = answers::answer_number(records[index].answer);
+            let number = u8::from(records[index].answer);
             print_line(rt, index as u64 + 1, number as u64)?;
         }
         index += 1;

@@ -174,20 +174,7 @@ fn place_of(block: Block) -> u32
 fn is_unmet(answer: Answer) -> bool
     ensures { result ≡ unmet answer }
 {
-    match answer {
-        Answer::Refused(fault) => match fault {
-            Fault::NoIdentifier => true,
-            Fault::Doubled => false,
-            Fault::NoBlock => false,
-            Fault::PastEnd => false,
-            Fault::OpenMark => false,
-            Fault::WrongEdc => false,
-            Fault::ForbiddenLetter => false,
-        },
-        Answer::Data => false,
-        Answer::Control => false,
-        Answer::Defective => false,
-    }
+    answer == Answer::Refused(Fault::NoIdentifier)
 }
 
 // What a sector is that answered `before`, once one more of its identifiers was accepted.

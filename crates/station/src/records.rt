@@ -17,8 +17,7 @@ pub(crate) const WIDTH: usize = 3;
 pub(crate) fn record_number(record: Record) -> u8
     ensures { result ≡ answer_number «record».answer }
 {
-    let answer = record.answer;
-    answers::answer_number(answer)
+    u8::from(record.answer)
 }
 
 // A record's numbers: its answer's, its place, and how many of its clock cells are doubtful.
