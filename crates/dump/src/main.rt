@@ -4,7 +4,7 @@
 ghost use Rattle.std.specs.Prelude.{◌≤◌};
 
 use answers::Record;
-use layouts::MOST_SECTORS;
+use layouts::{MOST_SECTORS, TrackNumbers};
 use read::Reading;
 use std::io;
 
@@ -73,14 +73,12 @@ fn print_track(
 ) -> io::Result<()> {
     let mut area = [0u8; 8192];
     let end = area_bytes(layout);
-    let answer = read::read(
-        layout as u32,
-        cylinder as u32,
-        side as u32,
-        image,
-        &mut area[0..end],
-    );
-    match answer {
+    let numbers = TrackNumbers {
+        layout: layout as u32,
+        cylinder: cylinder as u32,
+        side: side as u32,
+    };
+    match read::read(numbers, image, &mut area[0..end]) {
         Ok(reading) => print_reading(rt, layout, cylinder, side, reading),
         Err(refusal) => print_refusal(rt, u8::from(refusal)),
     }

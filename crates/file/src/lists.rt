@@ -6,13 +6,18 @@ ghost use Rattle.file.specs.Contents.{most_tracks, track_width, entries, is_trac
 ghost use Rattle.file.specs.Turns.{tracks_ask, answers_ask, carrying_ask};
 
 use super::{Asked, TRACK_WIDTH};
-use layouts::Layout;
+use layouts::{Layout, TrackNumbers};
 
 // Whether there is such a track, with this layout.
 fn is_track(cylinder: u8, side: u8, layout: u8) -> bool
     ensures { result ≡ is_track (record { cylinder = cylinder; side = side; layout = layout }) }
 {
-    layouts::track_numbers(layout as u32, cylinder as u32, side as u32).is_ok()
+    let numbers = TrackNumbers {
+        layout: layout as u32,
+        cylinder: cylinder as u32,
+        side: side as u32,
+    };
+    numbers.tested().is_ok()
 }
 
 // The tracks in one count, two to a cylinder: a list of them rises where that count does.

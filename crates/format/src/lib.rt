@@ -4,7 +4,7 @@
 ghost use Rattle.format.specs.Outcomes.{Formats};
 
 use calls::Refusal;
-use layouts::MOST_SECTORS;
+use layouts::{MOST_SECTORS, TrackNumbers};
 
 mod lengths;
 mod refusals;
@@ -18,17 +18,15 @@ const NATURAL: [u8; MOST_SECTORS] =
 // Formats a track: `data` has the sectors' bytes and `marks` a byte FB or F8 for each, by sector number; `image` has the table's length. A refused
 // call changes nothing.
 pub fn format(
-    layout: u32,
-    cylinder: u32,
-    side: u32,
+    numbers: TrackNumbers,
     data: &[u8],
     marks: &[u8],
     image: &mut [u8],
 ) -> Result<(), Refusal>
-    ensures { Formats layout cylinder side «data».now marks.now image.old result image.new }
+    ensures { Formats numbers.layout numbers.cylinder numbers.side «data».now marks.now image.old result image.new }
 {
-    refusals::tested(layout, cylinder, side, data, marks, image.len())?;
-    let track = layouts::track_of(layout, cylinder, side);
+    refusals::tested(numbers, data, marks, image.len())?;
+    let track = numbers.track();
     let sectors = track.layout.sectors;
     track::write_track(track, data, marks, &NATURAL[0..sectors], image);
     Ok(())

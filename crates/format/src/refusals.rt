@@ -7,7 +7,7 @@ ghost use Rattle.format.specs.Refusals.{marks_test, controls_test, form_tests, c
 
 use super::lengths::fields_of;
 use calls::Refusal;
-use layouts::Layout;
+use layouts::{Layout, TrackNumbers};
 
 // 6: whether there are more or fewer marks than sectors, or one is neither FB nor F8.
 fn has_wrong_mark(sectors: usize, marks: &[u8]) -> bool
@@ -40,11 +40,11 @@ fn has_wrong_control(layout: Layout, cylinder: u32, contents: &[u8], marks: &[u8
 }
 
 // The form of a call: 2, 3, 4, 1.
-fn form_tests(layout: u32, cylinder: u32, side: u32, length: usize) -> Result<(), Refusal>
-    ensures { result ≡ told (refusal (form_tests layout cylinder side length)) }
+fn form_tests(numbers: TrackNumbers, length: usize) -> Result<(), Refusal>
+    ensures { result ≡ told (refusal (form_tests numbers.layout numbers.cylinder numbers.side length)) }
 {
-    layouts::track_numbers(layout, cylinder, side)?;
-    if length != layouts::layout_of(layout).image_bytes {
+    numbers.tested()?;
+    if length != layouts::layout_of(numbers.layout).image_bytes {
         return Err(Refusal::ImageLength);
     }
     Ok(())
@@ -76,19 +76,17 @@ fn content_tests(
 
 // All the tests of a format: the form, and then the contents.
 pub(crate) fn tested(
-    layout: u32,
-    cylinder: u32,
-    side: u32,
+    numbers: TrackNumbers,
     contents: &[u8],
     marks: &[u8],
     length: usize,
 ) -> Result<(), Refusal>
-    ensures { result ≡ told (refusal (format_tests layout cylinder side contents.now marks.now length)) }
+    ensures { result ≡ told (refusal (format_tests numbers.layout numbers.cylinder numbers.side contents.now marks.now length)) }
 {
-    form_tests(layout, cylinder, side, length)?;
+    form_tests(numbers, length)?;
     content_tests(
-        layouts::layout_of(layout),
-        cylinder,
+        layouts::layout_of(numbers.layout),
+        numbers.cylinder,
         contents,
         marks,
         length,

@@ -95,26 +95,6 @@ pub fn layout_of(layout: u32) -> Layout
     }
 }
 
-// The track that a call names.
-pub fn track_of(layout: u32, cylinder: u32, side: u32) -> Track
-    ensures { IsTrack layout cylinder side result }
-{
-    Track {
-        layout: layout_of(layout),
-        cylinder,
-        side,
-    }
-}
-
-// Whether the track takes the layout.
-fn is_allowed(layout: u32, cylinder: u32, side: u32) -> bool
-    ensures { result ≡ allowed layout cylinder side }
-{
-    (cylinder == 0) & (side == 0) & (layout == 0)
-        | (cylinder == 0) & (side == 1) & (layout == 1)
-        | (cylinder != 0) & (1 <= layout) & (layout <= HIGHEST_MFM)
-}
-
 // The number of a layout where no track is named: refused 4.
 pub fn layout_number(layout: u32) -> Result<(), Refusal>
     ensures { IsLayoutNumber layout result }
@@ -122,23 +102,53 @@ pub fn layout_number(layout: u32) -> Result<(), Refusal>
     calls::tested(HIGHEST < layout, Refusal::LayoutNumber)
 }
 
-// The numbers of a track: refused 2, 3 or 4.
-pub fn track_numbers(layout: u32, cylinder: u32, side: u32) -> Result<(), Refusal>
-    ensures { IsTrackNumbers layout cylinder side result }
-{
-    if HIGHEST_CYLINDER < cylinder {
-        return Err(Refusal::CylinderNumber);
-    }
-    if HIGHEST_SIDE < side {
-        return Err(Refusal::SideNumber);
-    }
-    calls::tested(!is_allowed(layout, cylinder, side), Refusal::LayoutNumber)
+// The numbers by which a call names a track.
+#[derive(Clone, Copy, Debug, PartialEq, Eq)]
+pub struct TrackNumbers {
+    pub layout: u32,
+    pub cylinder: u32,
+    pub side: u32,
 }
 
-// The numbers of a track, and the length of its image that is read or rewritten: refused 2, 3, 4 or 1.
-pub fn track_and_image(layout: u32, cylinder: u32, side: u32, length: usize) -> Result<(), Refusal>
-    ensures { IsTrackAndImage layout cylinder side length result }
-{
-    track_numbers(layout, cylinder, side)?;
-    calls::image_length(length)
+impl TrackNumbers {
+    // The track that they name.
+    pub fn track(self) -> Track
+        ensures { IsTrack self.layout self.cylinder self.side result }
+    {
+        Track {
+            layout: layout_of(self.layout),
+            cylinder: self.cylinder,
+            side: self.side,
+        }
+    }
+
+    // Whether the track takes the layout.
+    fn is_allowed(self) -> bool
+        ensures { result ≡ allowed self.layout self.cylinder self.side }
+    {
+        (self.cylinder == 0) & (self.side == 0) & (self.layout == 0)
+            | (self.cylinder == 0) & (self.side == 1) & (self.layout == 1)
+            | (self.cylinder != 0) & (1 <= self.layout) & (self.layout <= HIGHEST_MFM)
+    }
+
+    // Their tests: refused 2, 3 or 4.
+    pub fn tested(self) -> Result<(), Refusal>
+        ensures { IsTrackNumbers self.layout self.cylinder self.side result }
+    {
+        if HIGHEST_CYLINDER < self.cylinder {
+            return Err(Refusal::CylinderNumber);
+        }
+        if HIGHEST_SIDE < self.side {
+            return Err(Refusal::SideNumber);
+        }
+        calls::tested(!self.is_allowed(), Refusal::LayoutNumber)
+    }
+
+    // The same, and the length of the track's image that is read or rewritten: refused 2, 3, 4 or 1.
+    pub fn tested_with_image(self, length: usize) -> Result<(), Refusal>
+        ensures { IsTrackAndImage self.layout self.cylinder self.side length result }
+    {
+        self.tested()?;
+        calls::image_length(length)
+    }
 }

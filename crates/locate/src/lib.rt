@@ -4,6 +4,7 @@
 ghost use Rattle.locate.specs.Outcomes.{Locates};
 
 use calls::Refusal;
+use layouts::TrackNumbers;
 use walk::Block;
 
 mod locating;
@@ -21,10 +22,9 @@ pub enum Located {
 }
 
 // Where the block of a sector is, on a track that the caller names.
-pub fn locate(layout: u32, cylinder: u32, side: u32, sector: u32, image: &[u8]) -> Result<Located, Refusal>
-    ensures { Locates layout cylinder side sector image.now result }
+pub fn locate(numbers: TrackNumbers, sector: u32, image: &[u8]) -> Result<Located, Refusal>
+    ensures { Locates numbers.layout numbers.cylinder numbers.side sector image.now result }
 {
-    refusals::tested(layout, cylinder, side, image.len(), sector)?;
-    let track = layouts::track_of(layout, cylinder, side);
-    Ok(locating::locate_block(track, sector as usize, image))
+    refusals::tested(numbers, image.len(), sector)?;
+    Ok(locating::locate_block(numbers.track(), sector as usize, image))
 }

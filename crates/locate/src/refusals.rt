@@ -5,12 +5,13 @@ ghost use Rattle.verdicts.specs.Tests.{refusal};
 ghost use Rattle.locate.specs.Outcomes.{locate_tests};
 
 use calls::Refusal;
+use layouts::TrackNumbers;
 
 // 2, 3, 4, 1, 9: the track, the image's length and the sector.
-pub(crate) fn tested(layout: u32, cylinder: u32, side: u32, image: usize, sector: u32) -> Result<(), Refusal>
-    ensures { result ≡ told (refusal (locate_tests layout cylinder side image sector)) }
+pub(crate) fn tested(numbers: TrackNumbers, image: usize, sector: u32) -> Result<(), Refusal>
+    ensures { result ≡ told (refusal (locate_tests numbers.layout numbers.cylinder numbers.side image sector)) }
 {
-    layouts::track_and_image(layout, cylinder, side, image)?;
-    let taken = layouts::layout_of(layout);
+    numbers.tested_with_image(image)?;
+    let taken = layouts::layout_of(numbers.layout);
     calls::sector_number(taken.sectors, sector)
 }

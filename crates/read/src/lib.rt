@@ -6,7 +6,7 @@ ghost use Rattle.read.specs.Outcomes.{Reads};
 
 use answers::Record;
 use calls::Refusal;
-use layouts::MOST_SECTORS;
+use layouts::{MOST_SECTORS, TrackNumbers};
 
 mod blocks;
 mod refusals;
@@ -27,12 +27,11 @@ pub struct Reading {
 
 // Reads a track: `area` has a slot for each sector number, sectors × N bytes in all. A refused sector's slot is all zero, and so is the whole
 // area of a refused call, of any length.
-pub fn read(layout: u32, cylinder: u32, side: u32, image: &[u8], area: &mut [u8]) -> Result<Reading, Refusal>
-    ensures { Reads layout cylinder side image.now (length area.old) result area.new }
+pub fn read(numbers: TrackNumbers, image: &[u8], area: &mut [u8]) -> Result<Reading, Refusal>
+    ensures { Reads numbers.layout numbers.cylinder numbers.side image.now (length area.old) result area.new }
 {
-    let tested = refusals::read_tested(layout, cylinder, side, image.len(), area.len());
+    let tested = refusals::read_tested(numbers, image.len(), area.len());
     cells::clear(area);
     tested?;
-    let track = layouts::track_of(layout, cylinder, side);
-    Ok(tracks::read_track(track, image, area))
+    Ok(tracks::read_track(numbers.track(), image, area))
 }

@@ -4,6 +4,7 @@
 ghost use Rattle.request.specs.Outcomes.{Requests};
 
 use calls::Refusal;
+use layouts::TrackNumbers;
 use rewrite::Plan;
 
 mod refusals;
@@ -11,17 +12,15 @@ mod refusals;
 // Asks for the rewrite of a sector: a plan that notes where its block is. `mark` is FB or F8, and `contents` the sector's new bytes. The image
 // is walked once, and only where the call itself is right.
 pub fn request(
-    layout: u32,
-    cylinder: u32,
-    side: u32,
+    numbers: TrackNumbers,
     sector: u32,
     mark: u32,
     contents: &[u8],
     image: &[u8],
 ) -> Result<Plan, Refusal>
-    ensures { Requests layout cylinder side sector mark contents.now image.now result }
+    ensures { Requests numbers.layout numbers.cylinder numbers.side sector mark contents.now image.now result }
 {
-    refusals::call_tests(layout, cylinder, side, sector, mark, contents, image.len())?;
-    let located = locate::locate(layout, cylinder, side, sector, image)?;
-    refusals::noted(layout, located)
+    refusals::call_tests(numbers, sector, mark, contents, image.len())?;
+    let located = locate::locate(numbers, sector, image)?;
+    refusals::noted(numbers.layout, located)
 }

@@ -6,7 +6,7 @@ ghost use Rattle.request.specs.Refusals.{contents_tests, call_tests, cell_of, pl
 ghost use Rattle.request.specs.Outcomes.{first_plan};
 
 use calls::Refusal;
-use layouts::Layout;
+use layouts::{Layout, TrackNumbers};
 use locate::Located;
 use rewrite::Plan;
 use walk::Block;
@@ -23,20 +23,18 @@ fn contents_tests(layout: Layout, cylinder: u32, mark: u32, contents: &[u8]) -> 
 
 // 2, 3, 4, 1, 9 and those: the tests of a request that need no walk. `length` is that of the image.
 pub(crate) fn call_tests(
-    layout: u32,
-    cylinder: u32,
-    side: u32,
+    numbers: TrackNumbers,
     sector: u32,
     mark: u32,
     contents: &[u8],
     length: usize,
 ) -> Result<(), Refusal>
-    ensures { result ≡ told (refusal (call_tests layout cylinder side sector mark contents.now length)) }
+    ensures { result ≡ told (refusal (call_tests numbers.layout numbers.cylinder numbers.side sector mark contents.now length)) }
 {
-    layouts::track_and_image(layout, cylinder, side, length)?;
-    let taken = layouts::layout_of(layout);
+    numbers.tested_with_image(length)?;
+    let taken = layouts::layout_of(numbers.layout);
     calls::sector_number(taken.sectors, sector)?;
-    contents_tests(taken, cylinder, mark, contents)
+    contents_tests(taken, numbers.cylinder, mark, contents)
 }
 
 // 10 and 11: the plan for the block that the walk located. (The walk itself refuses no call that has passed the tests before it.)

@@ -9,6 +9,7 @@ ghost use Rattle.station.specs.Files.{GivesFileRead, GivesFileWrite};
 ghost use Rattle.station.specs.Timings.{GivesFlux};
 
 use cells::Mode;
+use layouts::TrackNumbers;
 
 mod files;
 mod records;
@@ -64,7 +65,12 @@ pub fn station_format(
 ) -> u8
     ensures { GivesFormat layout cylinder side «data».now marks.now image.old result image.new }
 {
-    let answer = format::format(layout, cylinder, side, data, marks, image);
+    let numbers = TrackNumbers {
+        layout,
+        cylinder,
+        side,
+    };
+    let answer = format::format(numbers, data, marks, image);
     calls::checked_number(answer)
 }
 
@@ -82,7 +88,12 @@ pub fn station_read(
 ) -> u8
     ensures { GivesRead layout cylinder side image.now (length area.old) result area.new records.new counts.new }
 {
-    let answer = read::read(layout, cylinder, side, image, area);
+    let numbers = TrackNumbers {
+        layout,
+        cylinder,
+        side,
+    };
+    let answer = read::read(numbers, image, area);
     records::list_answered(&answer, records);
     *counts = records::answered_counts(&answer);
     calls::checked_number(answer)
@@ -127,7 +138,12 @@ pub fn station_request(
 ) -> u8
     ensures { GivesRequest layout cylinder side sector mark contents.now image.now result plan.new }
 {
-    let answer = request::request(layout, cylinder, side, sector, mark, contents, image);
+    let numbers = TrackNumbers {
+        layout,
+        cylinder,
+        side,
+    };
+    let answer = request::request(numbers, sector, mark, contents, image);
     *plan = rewriting::noted(answer, image.len());
     calls::checked_number(answer)
 }

@@ -14,17 +14,17 @@ use Rattle.format.proofs.format.Goals as goal
 
 pub slice_bounds-write_track-end : goal.slice_bounds-write_track-end
 slice_bounds-write_track-end c =
-    omega (arith, (usable c.args.layout).most, ap (λ (t : Track). t.layout.sectors) c.track_of-track.ensures)
+    omega (arith, (usable c.args.numbers.layout).most, ap (λ (t : Track). t.layout.sectors) c.track-track.ensures)
 
 pub write_track-requires : goal.write_track-requires
 write_track-requires c =
-    let l = layout_of c.args.layout in
+    let l = layout_of c.args.numbers.layout in
     let a = accepted _ _ _ _ _ _ (told_passed _ c.in_ok-tested.ensures) in
-    let u = usable c.args.layout in
+    let u = usable c.args.numbers.layout in
     let n = natural l.sectors u.most in
     let low = a.cylinders in
     let few = a.sides in
-    rw c.track_of-track.ensures (
+    rw c.track-track.ensures (
     record {
       writable =
           (record { cylinder = omega arith; side = omega arith; sectors = u.sectors; size = u.size; gaps = u.gaps }, record { slots = a.area; marked = a.marked }, a.whole);
@@ -44,5 +44,5 @@ returns c =
     let passes = told_passed _ c.in_ok-tested.ensures in
     record {
       answers = c.in_ok-tested.ensures;
-      leaves = rw passes (in_natural_order a.layout a.cylinder a.side _ _ _ _ c.track_of-track.ensures c.write_track.ensures);
+      leaves = rw passes (in_natural_order a.numbers.layout a.numbers.cylinder a.numbers.side _ _ _ _ c.track-track.ensures c.write_track.ensures);
     }

@@ -23,5 +23,5 @@ locate_block-requires c =
 pub returns : goal.returns
 returns c =
     let a = c.args in
-    ap Ok (c.locate_block.ensures ∙ ap (λ (t : Track). located (blocks a.sector (met t a.image.now))) c.track_of-track.ensures)
+    ap Ok (c.locate_block.ensures ∙ ap (λ (t : Track). located (blocks a.sector (met t a.image.now))) c.track.ensures)
     ∙ answer_passed _ _ _ c.in_ok-tested.ensures

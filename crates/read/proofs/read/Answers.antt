@@ -18,11 +18,11 @@ read_track-requires c =
     let a = c.args in
     let given = length a.area.now in
     let passes = told_passed _ c.in_ok-tested.ensures in
-    let known = read_known a.layout a.cylinder a.side (length a.image.now) given passes in
-    let whole = area_whole a.layout a.cylinder a.side (length a.image.now) given passes in
-    let t = c.track_of-track.ensures in (
+    let known = read_known a.numbers.layout a.numbers.cylinder a.numbers.side (length a.image.now) given passes in
+    let whole = area_whole a.numbers.layout a.numbers.cylinder a.numbers.side (length a.image.now) given passes in
+    let t = c.track.ensures in (
       omega (arith, known.long),
-      rw t (modest a.layout),
+      rw t (modest a.numbers.layout),
       rw t (c.clear.ensures ∙ ap (λ (k : ℕ). replicate k 0) whole),
     )
 
@@ -40,7 +40,7 @@ pub returns : goal.returns
 unfolding read_answer read_area
 returns c =
     let passes = c.in_ok-tested.ensures in
-    let t = c.track_of-track.ensures in
+    let t = c.track.ensures in
     let e = c.read_track.ensures in
     let image = c.args.image.now in
     record {

@@ -11,7 +11,7 @@ returns-in_err-located c = absurd (not_walked _ _ _ _ _ _ _ c.in_ok-call_tests.e
 pub noted-requires : goal.noted-requires
 noted-requires c =
     let a = c.args in
-    cell_small a.layout a.cylinder a.side a.sector a.mark a.contents.now a.image.now c.in_ok-call_tests.ensures _ c.in_ok-located.ensures
+    cell_small a.numbers.layout a.numbers.cylinder a.numbers.side a.sector a.mark a.contents.now a.image.now c.in_ok-call_tests.ensures _ c.in_ok-located.ensures
 
 pub returns : goal.returns
 returns c = asked_right _ _ _ _ _ _ _ c.in_ok-call_tests.ensures _ c.in_ok-located.ensures _ c.noted.ensures

@@ -6,4 +6,4 @@ use Rattle.file.proofs.lists.is_track.Goals as goal
 
 pub returns : goal.returns
 unfolding is_track
-returns c = c.is_ok.ensures.value ∙ is_ok_told _ _ c.track_numbers.ensures
+returns c = c.is_ok.ensures.value ∙ is_ok_told _ _ c.tested.ensures

@@ -22,14 +22,14 @@ unfolding locate_tests
 located layout cylinder side length sector l passes named =
     ap (λ (k : Layout). told (refusal (sector_test k.sectors sector ∷ []))) named ∙ then_passed _ _ passes
 
-pub returns-in_err-track_and_image : goal.returns-in_err-track_and_image
+pub returns-in_err-tested_with_image : goal.returns-in_err-tested_with_image
 unfolding call_tests locate_tests
-returns-in_err-track_and_image c = handed_on _ _ _ _ (then_refused _ _ _ c.in_err-track_and_image.ensures) c.from_residual.ensures.1
+returns-in_err-tested_with_image c = handed_on _ _ _ _ (then_refused _ _ _ c.in_err-tested_with_image.ensures) c.from_residual.ensures.1
 
 pub returns-in_err-sector_number : goal.returns-in_err-sector_number
 unfolding call_tests
 returns-in_err-sector_number c =
-    let e = located c.args.layout c.args.cylinder c.args.side c.args.length c.args.sector _ c.in_ok-track_and_image.ensures c.layout_of-taken.ensures in
+    let e = located c.args.numbers.layout c.args.numbers.cylinder c.args.numbers.side c.args.length c.args.sector _ c.in_ok-tested_with_image.ensures c.layout_of-taken.ensures in
     handed_on _ _ _ _ (c.in_err-sector_number.ensures ∙ e) c.from_residual-in_err-sector_number.ensures.1
 
 pub contents_tests-requires : goal.contents_tests-requires
@@ -39,7 +39,7 @@ pub returns : goal.returns
 unfolding call_tests
 returns c =
     let a = c.args in
-    let e = located a.layout a.cylinder a.side a.length a.sector _ c.in_ok-track_and_image.ensures c.layout_of-taken.ensures in
+    let e = located a.numbers.layout a.numbers.cylinder a.numbers.side a.length a.sector _ c.in_ok-tested_with_image.ensures c.layout_of-taken.ensures in
     c.contents_tests.ensures
-    ∙ ap (λ (l : Layout). told (refusal (contents_tests l a.cylinder a.mark a.contents.now))) c.layout_of-taken.ensures
+    ∙ ap (λ (l : Layout). told (refusal (contents_tests l a.numbers.cylinder a.mark a.contents.now))) c.layout_of-taken.ensures
     ∙ then_passed _ _ (c.in_ok-sector_number.ensures ∙ e)

@@ -1,5 +1,0 @@
--- `track_of` meets its contract: its layout is the one of the number, and the rest stands as it was given.
-use Rattle.layouts.proofs.track_of.Goals as goal
-
-pub returns : goal.returns
-returns c = rw c.layout_of.ensures
