@@ -2,9 +2,7 @@
 // there is of each. The data are counted only, so a file may be longer than what is kept of it.
 #![tactic(auto)]
 
-ghost use Rattle.std.specs.Prelude.{◌+◌, ◌≤◌, max, length};
-
-use file::{Judged, Section, Sections, TRACK_WIDTH};
+use file::{Refusal, Section, Sections, TRACK_WIDTH};
 use std::io;
 use streams::Input;
 
@@ -28,25 +26,21 @@ fn read_rest(stdin: &impl io::Input, start: usize, data: Section) -> Input {
 }
 
 // How many bytes the file has, where its first ones filled the buffer. One whose head is refused is so whatever follows: no more is read.
-fn count_all(stdin: &impl io::Input, head: Judged, start: usize) -> Input {
+fn count_all(stdin: &impl io::Input, head: Result<Sections, Refusal>, start: usize) -> Input {
     match head {
-        Judged::Refused(_) => Input {
+        Ok(found) => read_rest(stdin, start, found.data),
+        Err(_) => Input {
             end: start,
             broken: None,
         },
-        Judged::Found(found) => read_rest(stdin, start, found.data),
     }
 }
 
 // A number behind a word. This and all that prints fails where that does not go out.
-fn print_number(rt: &impl Print, word: &[u8], number: u32) -> io::Result<()> {
+fn print_number(rt: &impl Print, word: &[u8], number: impl Into<u32>) -> io::Result<()> {
+    let number: u32 = number.into();
     rt.write_all(word)?;
     print!(rt; "{number}")
-}
-
-// The number that a byte is, behind a word.
-fn print_byte(rt: &impl Print, word: &[u8], byte: u8) -> io::Result<()> {
-    print_number(rt, word, byte as u32)
 }
 
 // The end of a line.
@@ -55,17 +49,9 @@ fn print_end(rt: &impl Print) -> io::Result<()> {
 }
 
 // So many bytes from a place on, as far as they are there. (Those of a section that was found all are.)
-fn part<'a>(bytes: &'a [u8], start: usize, count: usize) -> &'a [u8]
-    ensures { start + length result.now ≤ max start (length bytes.now) }
-{
-    if bytes.len() <= start {
-        return &bytes[0..0];
-    }
-    if bytes.len() - start < count {
-        return &bytes[start..];
-    }
-    let end = start + count;
-    &bytes[start..end]
+fn part(bytes: &[u8], start: usize, count: usize) -> &[u8] {
+    let rest = bytes.get(start..).unwrap_or(&[]);
+    rest.get(..count).unwrap_or(rest)
 }
 
 // A byte of the label. One that is no plain character goes out as its number: what a file holds must not move a terminal.
@@ -78,20 +64,16 @@ fn print_label_byte(rt: &impl Print, byte: u8) -> io::Result<()> {
 
 // The bytes of the label.
 fn print_label(rt: &impl Print, label: &[u8]) -> io::Result<()> {
-    let mut index = 0;
-    while index < label.len() {
-        print_label_byte(rt, label[index])?;
-        index += 1;
+    for &byte in label {
+        print_label_byte(rt, byte)?;
     }
     Ok(())
 }
 
 // The answers of a track.
 fn print_answers(rt: &impl Print, answers: &[u8]) -> io::Result<()> {
-    let mut index = 0;
-    while index < answers.len() {
-        print_byte(rt, b" ", answers[index])?;
-        index += 1;
+    for &answer in answers {
+        print_number(rt, b" ", answer)?;
     }
     Ok(())
 }
@@ -104,9 +86,9 @@ fn print_track(
     layout: u8,
     answers: &[u8],
 ) -> io::Result<()> {
-    print_byte(rt, b"cylinder ", cylinder)?;
-    print_byte(rt, b" side ", side)?;
-    print_byte(rt, b" layout ", layout)?;
+    print_number(rt, b"cylinder ", cylinder)?;
+    print_number(rt, b" side ", side)?;
+    print_number(rt, b" layout ", layout)?;
     rt.write_all(b":")?;
     print_answers(rt, answers)?;
     print_end(rt)
@@ -114,23 +96,17 @@ fn print_track(
 
 // How many sectors a track of the layout has.
 fn sectors_of(layout: u8) -> usize {
-    let taken = layouts::layout_of(layout as u32);
-    taken.sectors
+    layouts::layout_of(layout as u32).sectors
 }
 
 // The lines of all tracks.
 fn print_tracks(rt: &impl Print, tracks: &[u8], answers: &[u8]) -> io::Result<()> {
-    let count = tracks.len() / TRACK_WIDTH;
-    let mut at = 0;
-    let mut index = 0;
-    while index < count {
-        let cylinder = tracks[TRACK_WIDTH * index];
-        let side = tracks[TRACK_WIDTH * index + 1];
-        let layout = tracks[TRACK_WIDTH * index + 2];
-        let here = part(answers, at, sectors_of(layout));
-        print_track(rt, cylinder, side, layout, here)?;
-        at += here.len();
-        index += 1;
+    let mut rest = answers;
+    for track in tracks.chunks_exact(TRACK_WIDTH) {
+        let layout = track[2];
+        let (here, behind) = rest.split_at(sectors_of(layout).min(rest.len()));
+        print_track(rt, track[0], track[1], layout, here)?;
+        rest = behind;
     }
     Ok(())
 }
@@ -159,13 +135,13 @@ fn print_sections(rt: &impl Print, file: &[u8], found: Sections) -> io::Result<(
 }
 
 // What came of the file, or of what is kept of it.
-fn print_judged(rt: &impl Print, file: &[u8], judged: Judged) -> io::Result<()> {
+fn print_judged(rt: &impl Print, file: &[u8], judged: Result<Sections, Refusal>) -> io::Result<()> {
     match judged {
-        Judged::Refused(refusal) => {
-            print_byte(rt, b"refused ", file::refusal_number(refusal))?;
+        Ok(found) => print_sections(rt, file, found),
+        Err(refusal) => {
+            print_number(rt, b"refused ", u8::from(refusal))?;
             print_end(rt)
         }
-        Judged::Found(found) => print_sections(rt, file, found),
     }
 }
 

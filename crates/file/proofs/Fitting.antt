@@ -1,14 +1,17 @@
 -- What is known of a content that fits: what its tests say, and how long it is at most.
-use mathlib.Core.Path.{◌≡◌}
+use mathlib.Core.Path.{◌≡◌, refl, sym, ◌∙◌}
 use mathlib.Core.Bool.{true}
 use mathlib.Core.List.{[], ◌∷◌}
 use Prim.Native.Nat.{ℕ, ◌≤◌, ◌/◌}
 use native.Mathlib.Omega.{arith}
-use borrow.Author.Tests.{eqb-true, ltb-false, not-false}
+use Rattle.std.proofs.lemmas.Bool.Decides.{nat_tests}
+use borrow.Author.Tests.{ltb-false}
 use lib.ListN.{length}
-use Rattle.verdicts.specs.Tests.{passed, refusal}
-use Rattle.verdicts.proofs.Tests.{first_passed, passed_both}
+use Rattle.std.specs.Prelude.{⊤, Result, Ok, Err}
+use Rattle.verdicts.specs.Tests.{Verdict, passed, refused, refusal, by}
+use Rattle.verdicts.proofs.Tests.{clash, first_passed, passed_both}
 use Rattle.answers.specs.Answers.{is_answer}
+use Rattle.file.specs.declared.Refusal.{Refusal}
 use Rattle.file.specs.Contents.{Content, track_width, entries, is_track_list, sectors_of, all, carried_bytes}
 use Rattle.file.specs.Outcomes.{Fits}
 use Rattle.file.specs.Refusals.{fit_tests, room_test, write_tests}
@@ -27,21 +30,15 @@ pub record Fitting (content : Content) : Type 0 where
   pub «data» : length content.«data» ≡ carried_bytes (entries content.tracks) content.answers
 
 pub fitting : (content : Content) → Fits content → Fitting content
-unfolding fit_tests
+unfolding fit_tests refusal
 fitting content h =
-    let one = first_passed _ _ h in
-    let two = first_passed _ _ one.1 in
-    let three = first_passed _ _ two.1 in
-    let four = first_passed _ _ three.1 in
-    let five = first_passed _ _ four.1 in
-    let six = first_passed _ _ five.1 in
     record {
-      label = ltb-false _ _ one.0;
-      tracks = ltb-false _ _ two.0;
-      list = not-false _ three.0;
-      answers = eqb-true _ _ (not-false _ four.0);
-      numbers = not-false _ five.0;
-      «data» = eqb-true _ _ (not-false _ six.0);
+      label = grind (arith, nat_tests);
+      tracks = grind (arith, nat_tests);
+      list = grind (arith, nat_tests);
+      answers = grind (arith, nat_tests);
+      numbers = grind (arith, nat_tests);
+      «data» = grind (arith, nat_tests);
     }
 
 module _ (content : Content) (f : Fitting content) where
@@ -64,3 +61,15 @@ module _ (content : Content) (room : ℕ) (h : refusal (write_tests content room
   pub room_enough : length (encoded content) ≤ room
   unfolding write_tests
   room_enough = ltb-false _ _ (first_passed _ _ (passed_both (fit_tests content) (room_test content room ∷ []) h).1).0
+
+said : (v : Verdict Refusal) → ◌≡◌ {A = Result ⊤ Refusal} (Ok tt) (by v (Ok tt) Err) → v ≡ passed
+unfolding by
+said passed e = refl
+said (refused f) e = absurd (clash cc)
+
+-- What is tested and passes comes into the area, and its length is a number of 32 bits.
+pub writable : (content : Content) (room : ℕ) (x : Result ⊤ Refusal) → x ≡ by (refusal (write_tests content room)) (Ok tt) Err → x ≡ Ok tt
+    → (length (encoded content) ≤ room) × (length (encoded content) ≤ 4000000)
+writable content room x e h =
+    let passes = said (refusal (write_tests content room)) (sym h ∙ e) in
+    (room_enough content room passes, file_short content (fitting content (writing_fits content room passes)))

@@ -1,10 +1,8 @@
--- how one test follows another
-pub mod Judging
 -- the track list, as it is gone over
 pub mod Asking
 -- the answers, as they are gone over
 pub mod Carrying
--- a section's tests, and where it lies
+-- the bytes of a section, and what a whole file answers
 pub mod Opening
 -- how long a file is, and how it comes into an area
 pub mod Putting

@@ -1,12 +1,12 @@
 -- How long a file is, and how it comes into an area, section by section.
 use mathlib.Core.Path.{◌≡◌, sym, ap, ap₂, ◌∙◌}
 use mathlib.Core.List.{List, ◌++◌, append_assoc}
-use Prim.Native.Nat.{ℕ, suc, ◌+◌, ◌-◌, ◌≤◌, ◌/◌, ◌%◌}
+use Prim.Native.Nat.{ℕ, ◌+◌, ◌-◌, ◌≤◌, ◌/◌}
 use native.Mathlib.Nat.{zero-add}
 use native.Mathlib.Omega.{arith}
 use borrow.Rule.Slice.PartMut.{put_mid}
-use lib.ListN.{take, drop, length, length-drop, length-append, length-replicate, replicate, set}
-use lib.Seq.{sets, length-sets, length-take-le}
+use lib.ListN.{take, drop, length, length-take, length-drop, length-append, length-replicate, replicate}
+use lib.Seq.{sets, length-sets}
 use Rattle.cells.proofs.Stores.{sets_append, sets_whole, part_put}
 use Rattle.file.specs.Contents.{Content, track_width}
 use Rattle.file.specs.Sections.{four_bytes, counted, encoded}
@@ -17,46 +17,15 @@ length_counted width l = length-append (four_bytes (length l / width)) l
 
 pub length_encoded : (content : Content)
     → length (encoded content) ≡ 16 + length content.label + length content.tracks + length content.answers + length content.«data»
-unfolding encoded
-length_encoded content =
-    let a = counted 1 content.label in
-    let t = counted track_width content.tracks in
-    let s = counted 1 content.answers in
-    let d = counted 1 content.«data» in
-    let long : length (a ++ t ++ s ++ d) ≡ 16 + length content.label + length content.tracks + length content.answers + length content.«data» =
-    omega (
-      arith,
-      length-append (a ++ t ++ s) d,
-      length-append (a ++ t) s,
-      length-append a t,
-      length_counted 1 content.label,
-      length_counted track_width content.tracks,
-      length_counted 1 content.answers,
-      length_counted 1 content.«data»,
-    ) in
-    long
+unfolding encoded four_bytes
+length_encoded content = simp (length-append {A = ℕ}) (omega arith)
 
 -- The same file, each section before all that follow.
 pub encoded_on : (content : Content)
     → encoded content
     ≡ counted 1 content.label ++ (counted track_width content.tracks ++ (counted 1 content.answers ++ counted 1 content.«data»))
 unfolding encoded
-encoded_on content =
-    let a = counted 1 content.label in
-    let t = counted track_width content.tracks in
-    let s = counted 1 content.answers in
-    let d = counted 1 content.«data» in
-    append_assoc (a ++ t) s d ∙ append_assoc a t (s ++ d)
-
--- Four stores of a count.
-pub four_sets : (area : List ℕ) (at n : ℕ)
-    → set (set (set (set area at (n / 16777216 % 256)) (at + 1) (n / 65536 % 256)) (at + 2) (n / 256 % 256)) (at + 3) (n % 256) ≡ sets area at (four_bytes n)
-unfolding four_bytes
-four_sets area at n =
-    let one : at + 1 ≡ suc at = omega arith in
-    let two : at + 2 ≡ suc (suc at) = omega arith in
-    let three : at + 3 ≡ suc (suc (suc at)) = omega arith in
-    rw (one, two, three)
+encoded_on content = simp (append_assoc {A = ℕ})
 
 -- A count and its section behind it.
 pub section_sets : (width : ℕ) (area mid part held : List ℕ) (at : ℕ) → mid ≡ sets area at (four_bytes (length held / width)) → part ≡ held
@@ -76,30 +45,23 @@ then_sets before mid after xs ys at e f g =
     g ∙ ap₂ (λ (l : List ℕ) (k : ℕ). sets l k ys) e (f ∙ sym (zero-add (length xs))) ∙ sets_append before 0 xs ys
 
 -- The area once all four sections are in it, each from where the one before it ended.
-module _ (content : Content) (area one two three four : List ℕ) (a b c d : ℕ) where
+module _ (content : Content) (area one two three four : List ℕ) (a b c : ℕ) where
   pub all_sets : one ≡ sets area 0 (counted 1 content.label) → a ≡ 4 + length content.label
       → two ≡ sets one a (counted track_width content.tracks) → b ≡ a + 4 + length content.tracks
       → three ≡ sets two b (counted 1 content.answers) → c ≡ b + 4 + length content.answers
-      → four ≡ sets three c (counted 1 content.«data») → d ≡ c + 4 + length content.«data»
-      → (four ≡ sets area 0 (encoded content)) × (d ≡ length (encoded content))
-  unfolding encoded
-  all_sets e i f j g k h l =
+      → four ≡ sets three c (counted 1 content.«data») → four ≡ sets area 0 (encoded content)
+  unfolding encoded four_bytes
+  all_sets e i f j g k h =
       let first = counted 1 content.label in
       let second = counted track_width content.tracks in
       let third = counted 1 content.answers in
-      let long = length_counted 1 content.label in
-      let longer : length (first ++ second) ≡ 8 + length content.label + length content.tracks =
-      omega (arith, length-append first second, long, length_counted track_width content.tracks) in
-      let longest : length (first ++ second ++ third) ≡ 12 + length content.label + length content.tracks + length content.answers =
-      omega (arith, length-append (first ++ second) third, longer, length_counted 1 content.answers) in
-      let x = then_sets area one two first second a e (omega (arith, i, long)) f in
-      let y = then_sets area two three (first ++ second) third b x (omega (arith, i, j, longer)) g in
-      let all : length (encoded content) ≡ d = omega (arith, i, j, k, l, length_encoded content) in
-      (then_sets area three four (first ++ second ++ third) (counted 1 content.«data») c y (omega (arith, i, j, k, longest)) h, sym all)
+      let x = then_sets area one two first second a e (simp (length-append {A = ℕ}) (omega (arith, i))) f in
+      let y = then_sets area two three (first ++ second) third b x (simp (length-append {A = ℕ}) (omega (arith, i, j))) g in
+      then_sets area three four (first ++ second ++ third) (counted 1 content.«data») c y (simp (length-append {A = ℕ}) (omega (arith, i, j, k))) h
 
 -- The part of a list from r on.
 pub tail_long : (l : List ℕ) (r : ℕ) → r ≤ length l → length (take (length l - r) (drop r l)) ≡ length l - r
-tail_long l r h = length-take-le (length l - r) (drop r l) (omega (arith, length-drop r l))
+tail_long l r h = simp (length-take {A = ℕ}, length-drop {A = ℕ}) (omega arith)
 
 -- And once the part behind them is cleared.
 module _ (content : Content) (area : List ℕ) where

@@ -5,6 +5,7 @@ use Rattle.verdicts.specs.Tests.{refusal, by}
 use Rattle.layouts.specs.Layouts.{layout_of}
 use Rattle.layouts.specs.Refusals.{track_tests}
 use Rattle.answers.specs.Answers.{answer_of, carries}
+use Rattle.file.specs.declared.Contents.{Contents}
 
 -- The bytes of the four sections (02, Req 03).
 pub record Content : Type 0 where
@@ -12,6 +13,10 @@ pub record Content : Type 0 where
   pub tracks : List ℕ
   pub answers : List ℕ
   pub «data» : List ℕ
+
+-- The same, of the code's four slices.
+abbrev pub content_of : Contents → Content
+content_of c = record { label = c.label.now; tracks = c.tracks.now; answers = c.answers.now; «data» = c.«data».now }
 
 -- A label has 0 to so many bytes (02, Req 03).
 abbrev pub longest_label : ℕ

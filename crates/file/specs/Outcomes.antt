@@ -1,11 +1,8 @@
 -- What each public function of this crate promises.
-use Rattle.std.specs.Prelude.{List, ◌++◌, ◌≡◌, ℕ, ◌-◌, length, replicate}
+use Rattle.std.specs.Prelude.{List, ◌++◌, ◌≡◌, ℕ, ◌-◌, length, replicate, Result, Ok, Err}
 use Rattle.verdicts.specs.Tests.{Test, passed, refusal, by}
 use Rattle.file.specs.declared.Refusal.{Refusal}
-use Rattle.file.specs.declared.Judged.{Judged}
-use Rattle.file.specs.declared.Judged.TheVariants as judged
-use Rattle.file.specs.declared.Written.{Written}
-use Rattle.file.specs.declared.Written.TheVariants as written
+use Rattle.file.specs.declared.Sections.{Sections}
 use Rattle.file.specs.Contents.{Content}
 use Rattle.file.specs.Sections.{encoded, sections_in}
 use Rattle.file.specs.Refusals.{refusal_number, head_tests, whole_tests, fit_tests, write_tests}
@@ -17,18 +14,18 @@ IsRefusalNumber f number = number ≡ refusal_number f
 -- ---- reading
 
 -- `head` answers where the sections are, or the first refusal of a file up to the count of its data. The data need not be there yet.
-unfoldable pub head_answer : List ℕ → Judged
-head_answer file = by (refusal (head_tests file)) (judged.Found (sections_in file)) judged.Refused
+unfoldable pub head_answer : List ℕ → Result Sections Refusal
+head_answer file = by (refusal (head_tests file)) (Ok (sections_in file)) Err
 
-abbrev pub IsHead : List ℕ → Judged → Type 0
+abbrev pub IsHead : List ℕ → Result Sections Refusal → Type 0
 IsHead file answer = answer ≡ head_answer file
 
 -- `whole` answers the same of a file of so many bytes whose head was judged: the data's length is judged too, and what is left over.
-abbrev pub whole_answer : Judged → (bytes : ℕ) → Judged
-whole_answer (judged.Refused f) bytes = judged.Refused f
-whole_answer (judged.Found s) bytes = by (refusal (whole_tests s bytes)) (judged.Found s) judged.Refused
+abbrev pub whole_answer : Result Sections Refusal → (bytes : ℕ) → Result Sections Refusal
+whole_answer (Err f) bytes = Err f
+whole_answer (Ok s) bytes = by (refusal (whole_tests s bytes)) (Ok s) Err
 
-abbrev pub IsWhole : Judged → (bytes : ℕ) → Judged → Type 0
+abbrev pub IsWhole : Result Sections Refusal → (bytes : ℕ) → Result Sections Refusal → Type 0
 IsWhole head bytes answer = answer ≡ whole_answer head bytes
 
 -- The refusals of reading a file, in the papers' order.
@@ -36,10 +33,10 @@ abbrev pub file_tests : List ℕ → List (Test Refusal)
 file_tests file = head_tests file ++ whole_tests (sections_in file) (length file)
 
 -- `read` answers where the sections are, or the first refusal.
-unfoldable pub file_answer : List ℕ → Judged
-file_answer file = by (refusal (file_tests file)) (judged.Found (sections_in file)) judged.Refused
+unfoldable pub file_answer : List ℕ → Result Sections Refusal
+file_answer file = by (refusal (file_tests file)) (Ok (sections_in file)) Err
 
-abbrev pub IsRead : List ℕ → Judged → Type 0
+abbrev pub IsRead : List ℕ → Result Sections Refusal → Type 0
 IsRead file answer = answer ≡ file_answer file
 
 -- ---- writing
@@ -49,8 +46,8 @@ abbrev pub Fits : Content → Type 0
 Fits content = refusal (fit_tests content) ≡ passed
 
 -- What `write` answers: the bytes of the file, or the first refusal.
-unfoldable pub write_answer : Content → (room : ℕ) → Written
-write_answer content room = by (refusal (write_tests content room)) (written.File (length (encoded content))) written.Refused
+unfoldable pub write_answer : Content → (room : ℕ) → Result ℕ Refusal
+write_answer content room = by (refusal (write_tests content room)) (Ok (length (encoded content))) Err
 
 -- What `write` leaves in an area of so many bytes: the file and zeros behind it, or zeros alone. What the area held before is not named.
 unfoldable pub write_area : Content → (room : ℕ) → List ℕ
@@ -58,6 +55,6 @@ write_area content room =
     by (refusal (write_tests content room)) (encoded content ++ replicate (room - length (encoded content)) 0) (λ f. replicate room 0)
 
 -- `write` answers this, and leaves this.
-pub record Writes (content : Content) (room : ℕ) (answer : Written) (after : List ℕ) : Type 0 where
+pub record Writes (content : Content) (room : ℕ) (answer : Result ℕ Refusal) (after : List ℕ) : Type 0 where
   pub answers : answer ≡ write_answer content room
   pub leaves : after ≡ write_area content room

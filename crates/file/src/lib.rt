@@ -23,7 +23,7 @@ pub const TRACK_WIDTH: usize = 3;
 pub const COUNT_WIDTH: usize = 4;
 
 // Why a file is not read or not written, in the order of the papers' numbers 31 to 36.
-#[derive(Clone, Copy)]
+#[derive(Clone, Copy, Debug, PartialEq, Eq)]
 pub enum Refusal {
     // a count or a section passes the end
     PastEnd,
@@ -40,7 +40,7 @@ pub enum Refusal {
 }
 
 // Where a section is.
-#[derive(Clone, Copy)]
+#[derive(Clone, Copy, Debug, PartialEq, Eq)]
 pub struct Section {
     // its first byte, past the count
     pub place: u32,
@@ -49,7 +49,7 @@ pub struct Section {
 }
 
 // Where the four sections are.
-#[derive(Clone, Copy)]
+#[derive(Clone, Copy, Debug, PartialEq, Eq)]
 pub struct Sections {
     pub label: Section,
     pub tracks: Section,
@@ -57,93 +57,77 @@ pub struct Sections {
     pub data: Section,
 }
 
-// What comes of a file that is judged.
-#[derive(Clone, Copy)]
-pub enum Judged {
-    Found(Sections),
-    Refused(Refusal),
-}
-
-// What comes of a file that is to be written.
-#[derive(Clone, Copy)]
-pub enum Written {
-    // the bytes of the file
-    File(u32),
-    Refused(Refusal),
-}
-
-// What a section asks of the next: so many elements; or it is wrong itself.
-#[derive(Clone, Copy)]
-enum Asked {
-    Asks(usize),
-    Wrong,
-}
-
-// What a test of what is to be written says.
-#[derive(Clone, Copy)]
-enum Tested {
-    Passed,
-    Refused(Refusal),
-}
-
-// What comes of one section.
-#[derive(Clone, Copy)]
-enum Opened {
-    Section(Section),
-    Refused(Refusal),
-}
-
 // The number that the papers give a refusal.
-pub fn refusal_number(refusal: Refusal) -> u8
-    ensures { IsRefusalNumber refusal result }
-{
-    match refusal {
-        Refusal::PastEnd => 31,
-        Refusal::LabelOrTracks => 32,
-        Refusal::AnswerBytes => 33,
-        Refusal::DataCount => 34,
-        Refusal::LeftOver => 35,
-        Refusal::AreaLength => 36,
+impl From<Refusal> for u8 {
+    ghost from_gives = { λ refusal number. IsRefusalNumber refusal number };
+
+    fn from(refusal: Refusal) -> u8 {
+        match refusal {
+            Refusal::PastEnd => 31,
+            Refusal::LabelOrTracks => 32,
+            Refusal::AnswerBytes => 33,
+            Refusal::DataCount => 34,
+            Refusal::LeftOver => 35,
+            Refusal::AreaLength => 36,
+        }
     }
 }
 
+// What a file holds, in its four sections.
+#[derive(Clone, Copy)]
+struct Contents<'a> {
+    label: &'a [u8],
+    tracks: &'a [u8],
+    answers: &'a [u8],
+    data: &'a [u8],
+}
+
 // Judges a file up to the count of its data, which tells how many bytes of data follow. What follows that count is not looked at.
-pub fn head(file: &[u8]) -> Judged
+#[tactic(auto, unfolding(crate::specs::Outcomes::head_answer))]
+pub fn head(file: &[u8]) -> Result<Sections, Refusal>
     ensures { IsHead file.now result }
 {
     reading::from_label(file)
 }
 
 // Judges the rest of a file of so many bytes whose head was judged: the data are there, and nothing is left over.
-pub fn whole(head: Judged, bytes: usize) -> Judged
+pub fn whole(head: Result<Sections, Refusal>, bytes: usize) -> Result<Sections, Refusal>
     ensures { IsWhole head bytes result }
 {
-    match head {
-        Judged::Refused(refusal) => Judged::Refused(refusal),
-        Judged::Found(found) => reading::ended(found, bytes),
-    }
+    reading::ended(head?, bytes)
 }
 
 // Reads a file: where its sections are.
-pub fn read(file: &[u8]) -> Judged
+#[tactic(auto, using(crate::proofs::Opening::read_whole))]
+pub fn read(file: &[u8]) -> Result<Sections, Refusal>
     ensures { IsRead file.now result }
 {
     whole(head(file), file.len())
 }
 
-// Writes the file of a label, tracks of three bytes each, answers and data into the area, and zeros behind it. A refused writing leaves zeros in the
-// whole area.
-pub fn write(label: &[u8], tracks: &[u8], answers: &[u8], data: &[u8], area: &mut [u8]) -> Written
+// Writes the file of a label, tracks of three bytes each, answers and data into the area, and zeros behind it, and says how many bytes the file has. A
+// refused writing leaves zeros in the whole area.
+#[tactic(auto, using(crate::proofs::Fitting::writable), unfolding(crate::specs::Outcomes::write_answer, crate::specs::Outcomes::write_area, verdicts::specs::Tests::by))]
+pub fn write(
+    label: &[u8],
+    tracks: &[u8],
+    answers: &[u8],
+    data: &[u8],
+    area: &mut [u8],
+) -> Result<u32, Refusal>
     ensures { Writes (record { label = label.now; tracks = tracks.now; answers = answers.now; «data» = «data».now }) (length area.old) result area.new }
 {
-    match tests::tested(label, tracks, answers, data, area.len()) {
-        Tested::Refused(refusal) => {
-            cells::clear(area);
-            Written::Refused(refusal)
-        }
-        Tested::Passed => {
-            let end = writing::put_file(label, tracks, answers, data, area);
-            Written::File(end as u32)
+    let contents = Contents {
+        label,
+        tracks,
+        answers,
+        data,
+    };
+    match tests::tested(contents, area.len()) {
+        Ok(()) => Ok(writing::put_file(contents, area) as u32),
+        Err(refusal) => {
+            area.fill(0);
+            Err(refusal)
         }
     }
 }

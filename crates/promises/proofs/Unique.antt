@@ -25,12 +25,11 @@ use Rattle.layouts.specs.declared.Track.{Track}
 use Rattle.pick.specs.Picks.{IsChosen, IsPicked, IsStretch}
 use Rattle.file.specs.Contents.{Content}
 use Rattle.file.specs.Outcomes.{IsRefusalNumber as IsFileRefusalNumber, IsHead, IsWhole, IsRead, Writes}
-use Rattle.file.specs.declared.Judged.{Judged}
 use Rattle.flux.specs.Outcomes.{IsRefusalNumber as IsFluxRefusalNumber, IsIntervalNumber, Lays}
 use Rattle.flux.specs.declared.Laid.{Laid}
 use Rattle.flux.specs.declared.Refusal.{Refusal as FluxRefusal}
 use Rattle.file.specs.declared.Refusal.{Refusal as FileRefusal}
-use Rattle.file.specs.declared.Written.{Written}
+use Rattle.file.specs.declared.Sections.{Sections}
 use Rattle.answers.specs.declared.Record.{Record}
 use Rattle.answers.specs.declared.Fault.{Fault}
 use Rattle.answers.specs.declared.Answer.{Answer}
@@ -247,18 +246,18 @@ flux_lay ticks stamps bytes x y p q = by_values _ _ x y (p.answers, p.leaves) (q
 
 -- ---- file
 
--- refusal_number, head, whole, read and write of the file
+-- the number of a refusal, head, whole, read and write of the file
 pub file_refusal_number : (refusal : FileRefusal) → Unique (IsFileRefusalNumber refusal)
 file_refusal_number refusal = by_value _
 
 pub file_head : (file : List ℕ) → Unique (IsHead file)
 file_head file = by_value _
 
-pub file_whole : (head : Judged) (bytes : ℕ) → Unique (IsWhole head bytes)
+pub file_whole : (head : Result Sections FileRefusal) (bytes : ℕ) → Unique (IsWhole head bytes)
 file_whole head bytes = by_value _
 
 pub file_read : (file : List ℕ) → Unique (IsRead file)
 file_read file = by_value _
 
-pub file_write : (content : Content) (room : ℕ) → Unique (λ (o : Written × List ℕ). Writes content room o.0 o.1)
+pub file_write : (content : Content) (room : ℕ) → Unique (λ (o : Result ℕ FileRefusal × List ℕ). Writes content room o.0 o.1)
 file_write content room x y p q = by_values _ _ x y (p.answers, p.leaves) (q.answers, q.leaves)

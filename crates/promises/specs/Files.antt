@@ -1,13 +1,12 @@
 -- The file of a read cartridge (02, Req 03), of the exported functions: each refusal when it applies and only then, zeros where one is given, and one
 -- file for each content.
-use Rattle.std.specs.Prelude.{List, [], ◌∷◌, ◌++◌, ◌≡◌, ℕ, ◌+◌, ◌*◌, ◌≤◌, length, get_or, take, replicate}
+use Rattle.std.specs.Prelude.{List, [], ◌∷◌, ◌++◌, ◌≡◌, ℕ, ◌+◌, ◌*◌, ◌≤◌, length, get_or, take, replicate, Err}
 use Rattle.cells.specs.Cells.{Bytes}
 use Rattle.layouts.specs.Layouts.{most_sectors}
 use Rattle.file.specs.Contents.{Content, longest_label, most_tracks, track_width}
 use Rattle.file.specs.Outcomes.{file_tests, head_answer, Fits}
 use Rattle.file.specs.Refusals.{refusal_number, write_tests}
 use Rattle.file.specs.Sections.{count_width, encoded, content_at}
-use Rattle.file.specs.declared.Judged.TheVariants as judged
 use Rattle.file.specs.declared.Refusal.{Refusal}
 use Rattle.file.specs.declared.Refusal.TheVariants.{PastEnd}
 use Rattle.file.specs.declared.Sections.{Sections}
@@ -97,5 +96,5 @@ longest_head = 4 * count_width + longest_label + track_width * most_tracks + mos
 -- `head` judges a file by what stands before its data. Where bytes have come that are not too few for it, those that follow change nothing; and so many
 -- are never too few. (A program that reads a stream holds that many bytes, and no whole file.)
 pub record HeadStands : Type 0 where
-  pub same : (file more : List ℕ) → (head_answer file ≡ judged.Refused PastEnd → ⊥) → head_answer (file ++ more) ≡ head_answer file
-  pub enough : (file : List ℕ) → longest_head ≤ length file → head_answer file ≡ judged.Refused PastEnd → ⊥
+  pub same : (file more : List ℕ) → (head_answer file ≡ Err PastEnd → ⊥) → head_answer (file ++ more) ≡ head_answer file
+  pub enough : (file : List ℕ) → longest_head ≤ length file → head_answer file ≡ Err PastEnd → ⊥

@@ -1,21 +1,15 @@
 -- A file of a read cartridge in numbers, as `station_file_read` and `station_file_write` hand them out (02, Req 03). What a file is, is said in `file`.
-use Rattle.std.specs.Prelude.{List, [], ◌∷◌, ◌≡◌, ℕ, replicate}
+use Rattle.std.specs.Prelude.{List, [], ◌∷◌, ◌≡◌, ℕ, replicate, Result, Ok, Err}
 use Rattle.file.specs.Contents.{Content}
 use Rattle.file.specs.Outcomes.{file_answer, write_answer, write_area}
 use Rattle.file.specs.Refusals.{refusal_number}
-use Rattle.file.specs.declared.Judged.{Judged}
-use Rattle.file.specs.declared.Judged.TheVariants as judged
-use Rattle.file.specs.declared.Written.{Written}
-use Rattle.file.specs.declared.Written.TheVariants as written
-
--- The number of a judged file: 0, or the refusal's.
-abbrev pub judged_number : Judged → ℕ
-judged_number (judged.Found s) = 0
-judged_number (judged.Refused f) = refusal_number f
+use Rattle.file.specs.declared.Refusal.{Refusal}
+use Rattle.file.specs.declared.Sections.{Sections}
+use Rattle.station.specs.Numbers.{number_of}
 
 -- The place and the count of label, tracks, answers and data; zeros of a refused file.
-abbrev pub section_numbers : Judged → List ℕ
-section_numbers (judged.Found s) =
+abbrev pub section_numbers : Result Sections Refusal → List ℕ
+section_numbers (Ok s) =
     s.label.place
     ∷ s.label.count
     ∷ s.tracks.place
@@ -25,26 +19,21 @@ section_numbers (judged.Found s) =
     ∷ s.«data».place
     ∷ s.«data».count
     ∷ []
-section_numbers (judged.Refused f) = replicate 8 0
-
--- The number of a writing: 0, or the refusal's.
-abbrev pub written_number : Written → ℕ
-written_number (written.File length) = 0
-written_number (written.Refused f) = refusal_number f
+section_numbers (Err f) = replicate 8 0
 
 -- The bytes of the file that was written; 0 where it was refused.
-abbrev pub written_length : Written → List ℕ
-written_length (written.File length) = length ∷ []
-written_length (written.Refused f) = replicate 1 0
+abbrev pub written_length : Result ℕ Refusal → List ℕ
+written_length (Ok length) = length ∷ []
+written_length (Err f) = replicate 1 0
 
 -- `station_file_read` gives 0 and where the sections are; or the number of the first refusal that applies, and zeros.
 pub record GivesFileRead (file : List ℕ) (number : ℕ) (sections : List ℕ) : Type 0 where
-  pub numbered : number ≡ judged_number (file_answer file)
+  pub numbered : number ≡ number_of refusal_number (file_answer file)
   pub placed : sections ≡ section_numbers (file_answer file)
 
 -- `station_file_write` gives 0, the file with zeros behind it, and its length; or the number of the first refusal that applies, zeros in the whole
 -- area, and 0.
 pub record GivesFileWrite (content : Content) (room number : ℕ) (area length : List ℕ) : Type 0 where
-  pub numbered : number ≡ written_number (write_answer content room)
+  pub numbered : number ≡ number_of refusal_number (write_answer content room)
   pub leaves : area ≡ write_area content room
   pub counted : length ≡ written_length (write_answer content room)

@@ -1,5 +1,7 @@
 -- What the contracts of the exported functions cite.
 
+-- the number of an answer
+pub mod Numbers
 -- a record in numbers
 pub mod Records
 -- a pick in numbers

@@ -12,6 +12,7 @@ use cells::Mode;
 use layouts::TrackNumbers;
 
 mod files;
+mod numbers;
 mod records;
 mod rewriting;
 mod taken;
@@ -172,7 +173,7 @@ pub fn station_file_write(
 {
     let answer = file::write(label, tracks, answers, data, area);
     *length = files::written_length(answer);
-    files::written_number(answer)
+    numbers::number_of(answer)
 }
 
 // Reads the file of a read cartridge: 0, and `sections` gets the place and the count of label, tracks, answers and data; or the number of the
@@ -182,7 +183,7 @@ pub fn station_file_read(file: &[u8], sections: &mut [u32; 8]) -> u8
 {
     let answer = file::read(file);
     *sections = files::section_numbers(answer);
-    files::judged_number(answer)
+    numbers::number_of(answer)
 }
 
 // Lays the cells of a capture into the image, where a nominal cell takes so many ticks of the counter that the stamps come from: 0, and `image` holds the

@@ -3,25 +3,25 @@ use mathlib.Core.Path.{◌≡◌, refl, sym, ap, subst, ◌∙◌}
 use mathlib.Core.List.{List, [], ◌∷◌, ◌++◌}
 use Prim.Native.Nat.{ℕ, zero, suc, ◌+◌, ◌-◌, ◌≤◌}
 use native.Mathlib.Omega.{arith}
-use borrow.Author.Tests.{le-ltb}
+use Rattle.std.proofs.lemmas.Bool.Decides.{nat_tests}
 use lib.ListN.{length, length-append, length-replicate, get_or, take, replicate}
 use lib.Seq.{take-append_seam, get_or-append-add}
+use Rattle.std.specs.Prelude.{Ok, Err}
 use Rattle.verdicts.specs.Tests.{Verdict, passed, refused, refusal, by}
 use Rattle.verdicts.proofs.Tests.{append_passed, exactly, by_map, by_passed}
 use Rattle.file.specs.Contents.{Content}
 use Rattle.file.specs.Outcomes.{file_tests, file_answer, Fits, write_answer, write_area}
-use Rattle.file.specs.Refusals.{refusal_number, fit_tests, room_test, write_tests}
+use Rattle.file.specs.Refusals.{refusal_number, write_tests}
 use Rattle.file.specs.Sections.{encoded, sections_in, content_at}
-use Rattle.file.specs.declared.Judged.TheVariants as judged
 use Rattle.file.specs.declared.Refusal.{Refusal}
 use Rattle.file.specs.declared.Refusal.TheVariants.{PastEnd, LabelOrTracks, AnswerBytes, DataCount, LeftOver, AreaLength}
 use Rattle.file.specs.declared.Sections.{Sections}
-use Rattle.file.specs.declared.Written.TheVariants as written
 use Rattle.file.proofs.Fitting.{fitting, writing_fits, room_enough}
-use Rattle.station.specs.Files.{judged_number, section_numbers, written_number, written_length, GivesFileRead, GivesFileWrite}
+use Rattle.station.specs.Numbers.{number_of}
+use Rattle.station.specs.Files.{section_numbers, written_length, GivesFileRead, GivesFileWrite}
 use Rattle.promises.specs.Files.{FileNumbersApart, FileDoorsRefuse, RefusedFileGivesZeros}
 use Rattle.promises.specs.Files.{content_by, HoldsFile, WritingLeavesTheFile, WrittenReadsBack, IsFileOf, ReadIsAFile, OneContent}
-use Rattle.promises.proofs.filing.Writing.{fits_so, passing, none, same_content, written_reads}
+use Rattle.promises.proofs.filing.Writing.{fits_so, same_content, written_reads}
 use Rattle.promises.proofs.filing.Reading.{known, found_fits, found_again}
 
 -- ---- the numbers
@@ -51,13 +51,13 @@ no_zero LeftOver e = absurd (omega arith)
 no_zero AreaLength e = absurd (omega arith)
 
 -- The number of an answer is its verdict's.
-read_number : (file : List ℕ) → judged_number (file_answer file) ≡ by (refusal (file_tests file)) 0 refusal_number
+read_number : (file : List ℕ) → number_of refusal_number (file_answer file) ≡ by (refusal (file_tests file)) 0 refusal_number
 unfolding file_answer
-read_number file = by_map judged_number (refusal (file_tests file)) (judged.Found (sections_in file)) judged.Refused
+read_number file = by_map (number_of refusal_number) (refusal (file_tests file)) (Ok (sections_in file)) Err
 
-write_number : (content : Content) (room : ℕ) → written_number (write_answer content room) ≡ by (refusal (write_tests content room)) 0 refusal_number
+write_number : (content : Content) (room : ℕ) → number_of refusal_number (write_answer content room) ≡ by (refusal (write_tests content room)) 0 refusal_number
 unfolding write_answer
-write_number content room = by_map written_number (refusal (write_tests content room)) (written.File (length (encoded content))) written.Refused
+write_number content room = by_map (number_of refusal_number) (refusal (write_tests content room)) (Ok (length (encoded content))) Err
 
 pub file_doors_refuse : FileDoorsRefuse
 file_doors_refuse =
@@ -76,15 +76,15 @@ refused_file_gives_zeros =
           writes (refusal (write_tests content room)) content room number area long p.numbered p.leaves p.counted h;
     }
   where
-    reads : (v : Verdict Refusal) (s : Sections) (number : ℕ) (sections : List ℕ) → number ≡ judged_number (by v (judged.Found s) judged.Refused)
-        → sections ≡ section_numbers (by v (judged.Found s) judged.Refused) → (number ≡ 0 → ⊥) → sections ≡ replicate 8 0
+    reads : (v : Verdict Refusal) (s : Sections) (number : ℕ) (sections : List ℕ) → number ≡ number_of refusal_number (by v (Ok s) Err)
+        → sections ≡ section_numbers (by v (Ok s) Err) → (number ≡ 0 → ⊥) → sections ≡ replicate 8 0
     reads passed s number sections n e h = absurd (h n)
     reads (refused f) s number sections n e h = e
 
     writes : (v : Verdict Refusal) (content : Content) (room number : ℕ) (area long : List ℕ)
-        → number ≡ written_number (by v (written.File (length (encoded content))) written.Refused)
+        → number ≡ number_of refusal_number (by v (Ok (length (encoded content))) Err)
         → area ≡ by v (encoded content ++ replicate (room - length (encoded content)) 0) (λ f. replicate room 0)
-        → long ≡ written_length (by v (written.File (length (encoded content))) written.Refused)
+        → long ≡ written_length (by v (Ok (length (encoded content))) Err)
         → (number ≡ 0 → ⊥) → (area ≡ replicate room 0) × (long ≡ 0 ∷ [])
     writes passed content room number area long n a l h = absurd (h n)
     writes (refused f) content room number area long n a l h = (a, l)
@@ -136,7 +136,7 @@ writing_leaves_the_file content room area count p =
 
 -- A file that its tests pass gives its sections.
 module _ (file : List ℕ) (h : refusal (file_tests file) ≡ passed) where
-  found : file_answer file ≡ judged.Found (sections_in file)
+  found : file_answer file ≡ Ok (sections_in file)
   unfolding file_answer by
   found = rw h
 
@@ -151,7 +151,7 @@ written_reads_back content room area count number sections p =
     let same : take (get_or count 0 0) area ≡ encoded content = ap (λ (l : List ℕ). take (get_or l 0 0) area) held.long ∙ held.file in
     subst (λ (file : List ℕ). GivesFileRead file number sections → (number ≡ 0) × (content_by sections file ≡ content)) (sym same)
     (λ q. (
-      q.numbered ∙ ap judged_number (found (encoded content) (written_reads content f)),
+      q.numbered ∙ ap (number_of refusal_number) (found (encoded content) (written_reads content f)),
       by_numbers (encoded content) (written_reads content f) sections q.placed ∙ same_content content f,
     ))
 
@@ -161,9 +161,8 @@ one_content one two h k e =
 
 -- A content that fits, and an area that is long enough.
 room_passes : (content : Content) (room : ℕ) → Fits content → length (encoded content) ≤ room → refusal (write_tests content room) ≡ passed
-unfolding write_tests
-room_passes content room fits enough =
-    append_passed (fit_tests content) (room_test content room ∷ []) fits ∙ passing _ _ (le-ltb _ _ enough) none
+unfolding write_tests refusal
+room_passes content room fits enough = grind (arith, nat_tests, append_passed {F = Refusal})
 
 by_zero : (v : Verdict Refusal) → v ≡ passed → by v 0 refusal_number ≡ 0
 unfolding by

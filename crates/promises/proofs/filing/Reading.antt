@@ -5,11 +5,10 @@ use mathlib.Core.List.{List, [], ◌++◌, append-nil}
 use Prim.Native.Nat.{ℕ, ◌*◌, ◌≤◌, ◌/◌}
 use native.Mathlib.Nat.{div-one}
 use native.Mathlib.Omega.{arith}
-use borrow.Author.Tests.{eqb-true, ltb-false, not-false}
+use Rattle.std.proofs.lemmas.Bool.Decides.{nat_tests}
 use lib.ListN.{length, drop, drop_of_length-le}
 use Rattle.cells.specs.Cells.{Bytes}
 use Rattle.verdicts.specs.Tests.{passed, refusal}
-use Rattle.verdicts.proofs.Tests.{passed_both, first_passed}
 use Rattle.answers.specs.Answers.{is_answer}
 use Rattle.file.specs.Contents.{Content, track_width, entries, is_track_list, sectors_of, all, carried_bytes}
 use Rattle.file.specs.Outcomes.{file_tests}
@@ -34,36 +33,19 @@ pub record Known (file : List ℕ) : Type 0 where
   pub ends : end 1 (data_in file) ≡ length file
 
 pub known : (file : List ℕ) → refusal (file_tests file) ≡ passed → Known file
-unfolding head_tests label_tests tracks_tests answers_tests data_tests whole_tests
+unfolding head_tests label_tests tracks_tests answers_tests data_tests whole_tests refusal
 known file h =
-    let whole = passed_both (head_tests file) (whole_tests (sections_in file) (length file)) h in
-    let third = passed_both (label_tests file ++ tracks_tests file ++ answers_tests file) (data_tests file) whole.0 in
-    let second = passed_both (label_tests file ++ tracks_tests file) (answers_tests file) third.0 in
-    let first = passed_both (label_tests file) (tracks_tests file) second.0 in
-    let a = first_passed _ _ (first_passed _ _ first.0).1 in
-    let b = first_passed _ _ a.1 in
-    let c = first_passed _ _ (first_passed _ _ first.1).1 in
-    let d = first_passed _ _ c.1 in
-    let e = first_passed _ _ d.1 in
-    let i = first_passed _ _ (first_passed _ _ second.1).1 in
-    let j = first_passed _ _ i.1 in
-    let k = first_passed _ _ j.1 in
-    let l = first_passed _ _ (first_passed _ _ third.1).1 in
-    let m = first_passed _ _ whole.1 in
-    let n = first_passed _ _ m.1 in
-    let low : end 1 (data_in file) ≤ length file = ltb-false _ _ m.0 in
-    let high : length file ≤ end 1 (data_in file) = ltb-false _ _ n.0 in
     record {
-      label = ltb-false _ _ a.0;
-      «label-there» = ltb-false _ _ b.0;
-      tracks = ltb-false _ _ c.0;
-      «tracks-there» = ltb-false _ _ d.0;
-      list = not-false _ e.0;
-      answers = eqb-true _ _ (not-false _ i.0);
-      «answers-there» = ltb-false _ _ j.0;
-      numbers = not-false _ k.0;
-      «data» = eqb-true _ _ (not-false _ l.0);
-      ends = omega (arith, low, high);
+      label = grind (arith, nat_tests);
+      «label-there» = grind (arith, nat_tests);
+      tracks = grind (arith, nat_tests);
+      «tracks-there» = grind (arith, nat_tests);
+      list = grind (arith, nat_tests);
+      answers = grind (arith, nat_tests);
+      «answers-there» = grind (arith, nat_tests);
+      numbers = grind (arith, nat_tests);
+      «data» = grind (arith, nat_tests);
+      ends = grind (arith, nat_tests);
     }
 
 one_each : (n : ℕ) → 1 * n / 1 ≡ n

@@ -1,18 +1,16 @@
 -- The file of a content that fits is read, and its sections hold the very content.
-use mathlib.Core.Path.{◌≡◌, refl, sym, ap, ap₂, ◌∙◌}
-use mathlib.Core.Bool.{false, not}
-use mathlib.Core.List.{List, [], ◌∷◌, ◌++◌, append_assoc, append-nil}
+use mathlib.Core.Path.{◌≡◌, refl, sym, ap, ◌∙◌}
+use mathlib.Core.List.{List, [], ◌++◌, append_assoc, append-nil}
 use Prim.Native.Nat.{ℕ, ◌+◌, ◌*◌, ◌<◌, ◌≤◌, ◌/◌}
 use native.Mathlib.Nat.{div-one}
 use native.Mathlib.Omega.{arith}
-use borrow.Author.Tests.{eq-eqb, le-ltb}
+use Rattle.std.proofs.lemmas.Bool.Decides.{nat_tests}
 use lib.ListN.{length, length-append}
-use Rattle.verdicts.specs.Tests.{Test, passed, refusal}
+use Rattle.verdicts.specs.Tests.{passed, refusal}
 use Rattle.verdicts.proofs.Tests.{append_passed}
-use Rattle.answers.specs.Answers.{is_answer}
-use Rattle.file.specs.Contents.{Content, longest_label, most_tracks, track_width, entries, is_track_list, sectors_of, all, carried_bytes}
+use Rattle.file.specs.Contents.{Content, track_width}
 use Rattle.file.specs.Outcomes.{file_tests, Fits}
-use Rattle.file.specs.Refusals.{end_test, left_test, label_tests, tracks_tests, answers_tests, data_tests, head_tests, whole_tests, fit_tests}
+use Rattle.file.specs.Refusals.{label_tests, tracks_tests, answers_tests, data_tests, head_tests, whole_tests, fit_tests}
 use Rattle.file.specs.Sections.{counted, encoded, end, held, label_in, tracks_in, answers_in, data_in, sections_in, content_at}
 use Rattle.file.specs.declared.Refusal.{Refusal}
 use Rattle.file.proofs.Asking.{list_whole}
@@ -20,27 +18,9 @@ use Rattle.file.proofs.Fitting.{Fitting, answers_few, data_few}
 use Rattle.file.proofs.Putting.{length_counted, length_encoded, encoded_on}
 use Rattle.promises.proofs.filing.Counts.{joined, count_of, held_of, end_of}
 
--- Tests pass of which the first does not apply and the rest pass.
-pub passing : (t : Test Refusal) (ts : List (Test Refusal)) → t.applies ≡ false → refusal ts ≡ passed → refusal (t ∷ ts) ≡ passed
-unfolding refusal
-passing t ts e h = rw e h
-
-pub none : refusal {F = Refusal} [] ≡ passed
-unfolding refusal
-none = refl
-
-passing_end : (bytes place : ℕ) (ts : List (Test Refusal)) → place ≤ bytes → refusal ts ≡ passed → refusal (end_test bytes place ∷ ts) ≡ passed
-passing_end bytes place ts h = passing (end_test bytes place) ts (le-ltb bytes place h)
-
 pub fits_so : (content : Content) → Fitting content → Fits content
-unfolding fit_tests
-fits_so content f =
-    passing _ _ (le-ltb _ _ f.label)
-    (passing _ _ (le-ltb _ _ f.tracks)
-    (passing _ _ (ap not f.list)
-    (passing _ _ (ap not (eq-eqb _ _ f.answers))
-    (passing _ _ (ap not f.numbers)
-    (passing _ _ (ap not (eq-eqb _ _ f.«data»)) none)))))
+unfolding fit_tests refusal
+fits_so content f = grind (arith, nat_tests)
 
 module _ (content : Content) (f : Fitting content) where
   abbrev file : List ℕ
@@ -181,42 +161,21 @@ module _ (content : Content) (f : Fitting content) where
   long = length_encoded content
 
   label_passes : refusal (label_tests file) ≡ passed
-  unfolding label_tests
-  label_passes =
-      passing_end (length file) 4 _ (omega (arith, long))
-      (passing _ _ (le-ltb longest_label (label_in file).count (rw label_count f.label))
-      (passing_end (length file) (end 1 (label_in file)) _ (omega (arith, long, label_end)) none))
+  unfolding label_tests refusal
+  label_passes = grind (arith, nat_tests, long, label_count, label_end, f.label)
 
   tracks_pass : refusal (tracks_tests file) ≡ passed
-  unfolding tracks_tests
-  tracks_pass =
-      passing_end (length file) (end 1 (label_in file) + 4) _ (omega (arith, long, label_end))
-      (passing _ _ (le-ltb most_tracks (tracks_in file).count (rw tracks_count f.tracks))
-      (passing_end (length file) (end track_width (tracks_in file)) _ (omega (arith, long, tracks_end))
-      (passing _ _ (ap not (ap is_track_list tracks_held ∙ f.list)) none)))
+  unfolding tracks_tests refusal
+  tracks_pass = grind (arith, nat_tests, long, label_end, tracks_count, tracks_end, tracks_held, f.tracks, f.list)
 
   answers_pass : refusal (answers_tests file) ≡ passed
-  unfolding answers_tests
-  answers_pass =
-      passing_end (length file) (end track_width (tracks_in file) + 4) _ (omega (arith, long, tracks_end))
-      (passing _ _ (ap not (eq-eqb _ _ (answers_count ∙ f.answers ∙ ap (λ (l : List ℕ). sectors_of (entries l)) (sym tracks_held))))
-      (passing_end (length file) (end 1 (answers_in file)) _ (omega (arith, long, answers_end))
-      (passing _ _ (ap not (ap (all is_answer) answers_held ∙ f.numbers)) none)))
+  unfolding answers_tests refusal
+  answers_pass = grind (arith, nat_tests, long, tracks_end, answers_count, answers_end, answers_held, tracks_held, f.answers, f.numbers)
 
   data_passes : refusal (data_tests file) ≡ passed
-  unfolding data_tests
-  data_passes =
-      passing_end (length file) (end 1 (answers_in file) + 4) _ (omega (arith, long, answers_end))
-      (passing _ _
-      (ap not (eq-eqb _ _ (data_count ∙ f.«data»
-      ∙ sym (ap₂ (λ (t a : List ℕ). carried_bytes (entries t) a) tracks_held answers_held)))) none)
+  unfolding data_tests refusal
+  data_passes = grind (arith, nat_tests, long, answers_end, data_count, tracks_held, answers_held, f.«data»)
 
   pub written_reads : refusal (file_tests file) ≡ passed
-  unfolding head_tests whole_tests
-  written_reads =
-      append_passed (head_tests file) _
-      (append_passed (label_tests file ++ tracks_tests file ++ answers_tests file) _
-      (append_passed (label_tests file ++ tracks_tests file) _ (append_passed (label_tests file) _ label_passes ∙ tracks_pass) ∙ answers_pass)
-      ∙ data_passes)
-      ∙ passing_end (length file) (end 1 (data_in file)) _ (omega (arith, data_end))
-      (passing (left_test (length file) (end 1 (data_in file))) [] (le-ltb (end 1 (data_in file)) (length file) (omega (arith, data_end))) none)
+  unfolding head_tests whole_tests refusal
+  written_reads = grind (arith, nat_tests, append_passed {F = Refusal}, label_passes, tracks_pass, answers_pass, data_passes, data_end)

@@ -1,17 +1,16 @@
--- `put_count` meets its contract: four stores, one behind the other.
+-- `put_count` meets its contract: the four bytes are stored where they are lent.
+use mathlib.Core.Path.{ap, ◌∙◌}
+use mathlib.Core.List.{List}
+use Prim.Native.Nat.{ℕ, ◌+◌}
 use native.Mathlib.Omega.{arith}
-use lib.ListN.{length-set}
-use Rattle.file.proofs.Putting.{four_sets}
+use lib.ListN.{take, drop}
+use Rattle.cells.proofs.Stores.{part_put}
+use Rattle.file.specs.Sections.{four_bytes}
 use Rattle.file.proofs.writing.put_count.Goals as goal
 
-pub bounds-area-at-2 : goal.bounds-area-at-2
-bounds-area-at-2 c = simp length-set (omega (arith, c.requires))
-
-pub bounds-area-at-3 : goal.bounds-area-at-3
-bounds-area-at-3 c = simp length-set (omega (arith, c.requires))
-
-pub bounds-area-at-4 : goal.bounds-area-at-4
-bounds-area-at-4 c = simp length-set (omega (arith, c.requires))
-
 pub returns : goal.returns
-returns c = four_sets c.args.area.now c.args.at c.args.count
+unfolding four_bytes
+returns c =
+    let a = c.args in
+    let lent = c.copy_from_slice.ensures.after ∙ ap (λ (l : List ℕ). take 4 (drop 4 l)) c.to_be_bytes.ensures in
+    part_put a.area.now _ (four_bytes a.count) a.at (a.at + 4) lent (omega arith) c.requires
