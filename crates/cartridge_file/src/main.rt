@@ -4,6 +4,7 @@
 
 use file::{Refusal, Section, Sections, TRACK_WIDTH};
 use std::io;
+use std::io::Read;
 use streams::Input;
 
 // Reads on behind the bytes that have come, and only counts them: until there is a byte more than the data, the input ends or a read fails. How many
@@ -13,14 +14,16 @@ fn read_rest(stdin: &impl io::Input, start: usize, data: Section) -> Input {
     let wanted = data.place as usize + data.count as usize;
     let mut end = start;
     while end <= wanted {
-        let more = streams::read_some(stdin, &mut buffer);
-        if more.end == 0 {
-            return Input {
-                end,
-                broken: more.broken,
-            };
+        match stdin.reader().read(&mut buffer) {
+            Ok(0) => break,
+            Ok(more) => end += more,
+            Err(why) => {
+                return Input {
+                    end,
+                    broken: Some(why),
+                };
+            }
         }
-        end += more.end;
     }
     Input { end, broken: None }
 }
@@ -156,9 +159,9 @@ fn main(rt: HostRuntime) {
         input = count_all(&rt, head, end);
     }
     if let Some(why) = input.broken {
-        streams::tell_broken(&stderr, b"cartridge-file", input.end, why);
+        streams::tell_broken(&stderr, "cartridge-file", input.end, why);
         return;
     }
     let printed = print_judged(&rt, &buffer[..end], file::whole(head, input.end));
-    streams::tell_lost(&stderr, b"cartridge-file", printed);
+    streams::tell_lost(&stderr, "cartridge-file", printed);
 }

@@ -8,33 +8,19 @@ use layouts::{MOST_SECTORS, TrackNumbers};
 use read::Reading;
 use std::io;
 
-// A number and the byte behind it. This and all that prints fails where that does not go out.
-fn print_number(rt: &impl Print, number: u64, behind: u8) -> io::Result<()> {
-    print!(rt; "{number}")?;
-    rt.write_all(&[behind])
-}
-
-// Two numbers behind a word, as a line.
-fn print_line(rt: &impl Print, first: u64, second: u64) -> io::Result<()> {
-    print_number(rt, first, b' ')?;
-    print_number(rt, second, b'\n')
-}
-
-// The number of a refused call.
+// The number of a refused call. This and all that prints fails where that does not go out.
 fn print_refusal(rt: &impl Print, number: u8) -> io::Result<()> {
-    rt.write_all(b"refused ")?;
-    print_number(rt, number as u64, b'\n')
+    println!(rt; "refused {number}")
 }
 
 // A line for each sector of the track: its number and its answer.
-fn print_answers(rt: &impl Print, sectors: usize, records: [Record; MOST_SECTORS]) -> io::Result<()> {
-    let mut index = 0;
-    while index < MOST_SECTORS {
-        if index < sectors {
-            let number = u8::from(records[index].answer);
-            print_line(rt, index as u64 + 1, number as u64)?;
-        }
-        index += 1;
+fn print_answers(
+    rt: &impl Print,
+    sectors: usize,
+    records: [Record; MOST_SECTORS],
+) -> io::Result<()> {
+    for (index, record) in records.iter().enumerate().take(sectors) {
+        println!(rt; "{} {}", index + 1, u8::from(record.answer))?;
     }
     Ok(())
 }
@@ -47,20 +33,16 @@ fn print_reading(
     side: u8,
     reading: Reading,
 ) -> io::Result<()> {
-    rt.write_all(b"track ")?;
-    print_number(rt, cylinder as u64, b' ')?;
-    print_line(rt, side as u64, layout as u64)?;
+    println!(rt; "track {cylinder} {side} {layout}")?;
     print_answers(rt, reading.sectors, reading.records)?;
-    rt.write_all(b"idents ")?;
-    print_line(rt, reading.bad as u64, reading.foreign as u64)
+    println!(rt; "idents {} {}", reading.bad, reading.foreign)
 }
 
 // How long the layout's data area is. A layout that there is none of is refused, whatever the area.
 fn area_bytes(layout: u8) -> usize
     ensures { result ≤ 8192 }
 {
-    let taken = layouts::layout_of(layout as u32);
-    taken.area_bytes
+    layouts::layout_of(layout as u32).area_bytes
 }
 
 // Reads the track and prints it.
@@ -91,13 +73,13 @@ fn main(rt: HostRuntime) {
     let input = streams::read_input(&rt, &mut buffer);
     let end = input.end;
     if let Some(why) = input.broken {
-        streams::tell_broken(&stderr, b"dump", end, why);
+        streams::tell_broken(&stderr, "dump", end, why);
         return;
     }
-    if end < 3 {
-        streams::tell_lost(&stderr, b"dump", print_refusal(&rt, 1));
+    let [layout, cylinder, side, image @ ..] = &buffer[..end] else {
+        streams::tell_lost(&stderr, "dump", print_refusal(&rt, 1));
         return;
-    }
-    let printed = print_track(&rt, buffer[0], buffer[1], buffer[2], &buffer[3..end]);
-    streams::tell_lost(&stderr, b"dump", printed);
+    };
+    let printed = print_track(&rt, *layout, *cylinder, *side, image);
+    streams::tell_lost(&stderr, "dump", printed);
 }

@@ -2,14 +2,15 @@
 use Rattle.std.proofs.Common.{◌≡◌, ℕ, suc, ◌+◌, ◌-◌, ◌*◌, ◌%◌, ◌<◌, ◌≤◌, List, [], ◌∷◌, ◌++◌, length, get_or, drop, set, replicate, sym, refl, ap, ◌∙◌, subst, ap₂, append_assoc, append-nil, zero-add, add-one, arith, length-append, drop_of_length-le, drop-cons, ltb-false, le-ltb, lt-ltb, eq-eqb, ne_eqb}
 use borrow.Author.Tests.{eqb-false}
 use lib.ListN.{length-replicate}
+use Rattle.std.specs.List.{sum}
 use Rattle.verdicts.specs.Tests.{passed, refused, refusal}
 use Rattle.verdicts.proofs.Tests.{first_passed}
 use Rattle.flux.specs.declared.Refusal.TheVariants.{NoBand, PastImage}
-use Rattle.flux.specs.Intervals.{Recent, between, since, band, total, accepted, halves_from}
+use Rattle.flux.specs.Intervals.{Recent, between, since, band, accepted, halves_from}
 use Rattle.flux.specs.Images.{runs, octets}
 use Rattle.flux.specs.Refusals.{band_test, room_test, interval_tests}
 use Rattle.flux.specs.Aids.{with_one, with_ones}
-use Rattle.flux.proofs.Rings.{turned, total_turned, renew_turned}
+use Rattle.flux.proofs.Rings.{turned, sum_turned, renew_turned}
 use Rattle.flux.proofs.Ones.{listed, run, run_bits, run_more}
 
 -- ---- what is left of the intervals
@@ -22,11 +23,11 @@ ringed number ticks halves = record { ticks = turned (number % 8) ticks; halves 
 unfoldable pub left : (stamps : List ℕ) → (number : ℕ) → (ticks halves : List ℕ) → List ℕ
 left stamps number ticks halves = halves_from (ringed number ticks halves) (since (get_or stamps (number - 1) 0) (drop number stamps))
 
-from_zero : (r : Recent) (i : ℕ) (is : List ℕ) → band (total r.ticks) (total r.halves) i ≡ 0 → halves_from r (i ∷ is) ≡ 0 ∷ []
+from_zero : (r : Recent) (i : ℕ) (is : List ℕ) → band (sum r.ticks) (sum r.halves) i ≡ 0 → halves_from r (i ∷ is) ≡ 0 ∷ []
 unfolding halves_from
 from_zero r i is e = rw (eq-eqb _ 0 e)
 
-pub from_more : (r : Recent) (i : ℕ) (is : List ℕ) (h : ℕ) → band (total r.ticks) (total r.halves) i ≡ h → (h ≡ 0 → ⊥)
+pub from_more : (r : Recent) (i : ℕ) (is : List ℕ) (h : ℕ) → band (sum r.ticks) (sum r.halves) i ≡ h → (h ≡ 0 → ⊥)
     → halves_from r (i ∷ is) ≡ h ∷ halves_from (accepted r i h) is
 unfolding halves_from
 from_more r i is h e n = rw (e, ne_eqb h 0 n)
@@ -39,11 +40,11 @@ module _ (stamps : List ℕ) (number : ℕ) (ticks halves : List ℕ) (h i : ℕ
   next_since l = ap (since (get_or stamps (number - 1) 0)) (drop-cons stamps number 0 l)
 
   -- By the sums of the last eight, whichever way they stand.
-  by_sums : h ≡ band (total ticks) (total halves) i → band (total (turned (number % 8) ticks)) (total (turned (number % 8) halves)) i ≡ h
-  by_sums e = ap₂ (λ (x y : ℕ). band x y i) (total_turned (number % 8) ticks) (total_turned (number % 8) halves) ∙ sym e
+  by_sums : h ≡ band (sum ticks) (sum halves) i → band (sum (turned (number % 8) ticks)) (sum (turned (number % 8) halves)) i ≡ h
+  by_sums e = ap₂ (λ (x y : ℕ). band x y i) (sum_turned (number % 8) ticks) (sum_turned (number % 8) halves) ∙ sym e
 
   module _ (l : number < length stamps) (interval : i ≡ between (get_or stamps (number - 1) 0) (get_or stamps number 0))
-      (judged : h ≡ band (total ticks) (total halves) i) where
+      (judged : h ≡ band (sum ticks) (sum halves) i) where
     told : List ℕ
     told = since (get_or stamps number 0) (drop (suc number) stamps)
 

@@ -4,7 +4,7 @@ use borrow.Author.Tests.{eqb-false}
 use lib.Bits.{bit_or}
 use borrow.Rule.Slice.PartMut.{put_mid}
 use lib.ListN.{get_or-append, get_or-eq_default}
-use lib.Seq.{take-length, drop-length}
+use lib.Seq.{take-length, drop-length, get_or-append_right}
 use Rattle.cells.specs.Cells.{octet}
 use Rattle.cells.proofs.Digits.{byte_lt}
 use Rattle.cells.proofs.Table.{all, all_at}
@@ -200,12 +200,6 @@ run_other zero (suc i) n = refl
 run_other (suc k) zero n = refl
 run_other (suc k) (suc i) n = run_other k i (λ e. n (ap suc e))
 
--- Cells behind others: those before stay, and those behind are found by how far behind they are.
-behind : (cells more : List ℕ) (i : ℕ) → length cells ≤ i → listed (cells ++ more) i ≡ listed more (i - length cells)
-behind cells more i h =
-    let e : length cells + (i - length cells) ≡ i = omega arith in
-    ap (listed (cells ++ more)) (sym e) ∙ get_or-append-add cells more (i - length cells) 0
-
 module _ (cells : List ℕ) (k : ℕ) where
   run_there : listed (cells ++ run k) (length cells + k) ≡ 1
   run_there = get_or-append-add cells (run k) k 0 ∙ run_last k
@@ -217,7 +211,7 @@ module _ (cells : List ℕ) (k : ℕ) where
       go true e = get_or-append cells (run k) 0 i (ltb-true i (length cells) e)
       go false e =
           let h = ltb-false i (length cells) e in
-          behind cells (run k) i h ∙ run_other k (i - length cells) (λ m. n (omega arith)) ∙ sym (get_or-eq_default cells 0 h)
+          get_or-append_right cells (run k) i 0 h ∙ run_other k (i - length cells) (λ m. n (omega arith)) ∙ sym (get_or-eq_default cells 0 h)
 
   -- All cells are bits, with the run too.
   pub run_bits : ((i : ℕ) → listed cells i < 2) → (i : ℕ) → listed (cells ++ run k) i < 2

@@ -1,55 +1,20 @@
 -- The last eight numbers go round in a list: each comes in where the oldest stands. Turned so that the oldest is first, they are the last eight in their
 -- order; and what they add up to does not depend on where they stand.
-use Rattle.std.proofs.Common.{◌≡◌, ℕ, zero, suc, ◌+◌, ◌*◌, ◌%◌, ◌<◌, ◌≤◌, ◌⊎◌, List, [], ◌∷◌, ◌++◌, length, get_or, take, drop, set, sym, ap, ◌∙◌, ⊎_elim, append_assoc, append-nil, le_of_suc-le-suc, not-suc-le-zero, suc-mul, eq-or-lt_of_le, zero-add, arith, take-append-drop, drop_of_length-le, drop-cons, take-suc-set, drop-set-lt}
+use Rattle.std.proofs.Common.{◌≡◌, ℕ, suc, ◌+◌, ◌%◌, ◌<◌, ◌⊎◌, List, [], ◌∷◌, ◌++◌, length, take, drop, set, sym, ap, ◌∙◌, ⊎_elim, append_assoc, append-nil, eq-or-lt_of_le, arith, drop_of_length-le, drop-cons, take-suc-set, drop-set-lt}
 use lib.Seq.{set_split}
-use Rattle.flux.specs.Intervals.{total, renewed}
+use Rattle.std.specs.List.{sum}
+use Rattle.std.proofs.lemmas.List.Sums.{sum_by-append, sum_by-take-drop}
+use Rattle.flux.specs.Intervals.{renewed}
 
 -- The list from place k on, and then what stands before it.
 abbrev pub turned : (k : ℕ) → List ℕ → List ℕ
 turned k xs = drop k xs ++ take k xs
 
--- ---- what they add up to
-
-pub total_append : (xs ys : List ℕ) → total (xs ++ ys) ≡ total xs + total ys
-unfolding total
-total_append [] ys = sym (zero-add (total ys))
-total_append (x ∷ xs) ys = let e = total_append xs ys in omega arith
-
-pub total_turned : (k : ℕ) (xs : List ℕ) → total (turned k xs) ≡ total xs
-total_turned k xs =
-    let e = total_append (drop k xs) (take k xs) in
-    let f = total_append (take k xs) (drop k xs) in
-    let g : total (take k xs ++ drop k xs) ≡ total xs = ap total (take-append-drop k xs) in
+pub sum_turned : (k : ℕ) (xs : List ℕ) → sum (turned k xs) ≡ sum xs
+sum_turned k xs =
+    let e = sum_by-append (λ x. x) (drop k xs) (take k xs) in
+    let f = sum_by-take-drop (λ x. x) xs k in
     omega arith
-
-pub total_set : (xs : List ℕ) (k x : ℕ) → k < length xs → total (set xs k x) + get_or xs k 0 ≡ total xs + x
-unfolding total
-total_set [] k x h = absurd (not-suc-le-zero h)
-total_set (y ∷ xs) zero x h = omega arith
-total_set (y ∷ xs) (suc k) x h = let e = total_set xs k x (le_of_suc-le-suc h) in omega arith
-
-pub part_of_total : (xs : List ℕ) (k : ℕ) → get_or xs k 0 ≤ total xs
-unfolding total
-part_of_total [] k = omega arith
-part_of_total (x ∷ xs) zero = omega arith
-part_of_total (x ∷ xs) (suc k) = let e = part_of_total xs k in omega arith
-
--- ---- how far they go
-
--- No number of the list is above m.
-abbrev pub AtMost : ℕ → List ℕ → Type 0
-AtMost m [] = Unit {0}
-AtMost m (x ∷ xs) = (x ≤ m) × AtMost m xs
-
-pub most_set : (m : ℕ) (xs : List ℕ) (k x : ℕ) → AtMost m xs → x ≤ m → AtMost m (set xs k x)
-most_set m [] k x f h = tt
-most_set m (y ∷ xs) zero x f h = (h, f.1)
-most_set m (y ∷ xs) (suc k) x f h = (f.0, most_set m xs k x f.1 h)
-
-pub most_total : (m : ℕ) (xs : List ℕ) → AtMost m xs → total xs ≤ length xs * m
-unfolding total
-most_total m [] f = omega arith
-most_total m (x ∷ xs) f = rw (suc-mul (length xs) m) (let e = most_total m xs f.1 in omega (arith, f.0))
 
 -- ---- one more comes in
 

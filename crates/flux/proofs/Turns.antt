@@ -1,41 +1,19 @@
 -- The turns of the loop over the intervals: what holds at each, what ends the loop, and what it answers then.
-use Rattle.std.proofs.Common.{◌≡◌, ℕ, zero, suc, ◌+◌, ◌-◌, ◌*◌, ◌%◌, ◌<◌, ◌≤◌, List, [], ◌∷◌, length, get_or, set, replicate, sym, refl, ap, ◌∙◌, subst, ap₂, arith, length-set}
+use Rattle.std.proofs.Common.{◌≡◌, ℕ, ◌+◌, ◌-◌, ◌*◌, ◌%◌, ◌<◌, ◌≤◌, List, [], ◌∷◌, length, get_or, set, replicate, sym, refl, ap, ◌∙◌, subst, ap₂, arith, Option, None, Some, MatchOption, ok_or, Result, Ok, Err, IsErrAnd}
+use Rattle.std.specs.List.{sum}
 use Rattle.verdicts.specs.Tests.{by}
 use Rattle.verdicts.proofs.Tests.{clash}
-use Rattle.flux.specs.declared.Laid.TheVariants as laid
+use Rattle.flux.specs.declared.Refusal.{Refusal}
 use Rattle.flux.specs.declared.Refusal.TheVariants.{NoBand, PastImage}
-use Rattle.flux.specs.Intervals.{between, intervals, band, total, halves_of}
+use Rattle.flux.specs.Intervals.{between, intervals, band, halves_of}
 use Rattle.flux.specs.Images.{runs, cells_of}
 use Rattle.flux.specs.Aids.{with_one, with_ones, LaysIntervals}
-use Rattle.flux.proofs.Rings.{AtMost, most_set, most_total}
 use Rattle.flux.proofs.Left.{left, left_zero, left_more, left_none, Leads, leads_start, leads_zero, leads_more, leads_past, leads_end}
 
--- The last eight: none above m, and what they add up to.
-pub record Last (m : ℕ) (last : List ℕ) (all : ℕ) : Type 0 where
-  pub long : length last ≡ 8
-  pub most : AtMost m last
-  pub sum : all ≡ total last
-
-pub last_most : {m : ℕ} {last : List ℕ} {all : ℕ} → Last m last all → all ≤ 8 * m
-last_most {m} {last} {all} l = rw (l.sum, ← l.long) (most_total m last l.most)
-
-pub last_renewed : {m all : ℕ} {last next : List ℕ} (k x sum : ℕ) → Last m last all → x ≤ m → next ≡ set last k x → sum ≡ total next → Last m next sum
-last_renewed {m} {all} {last} {next} k x sum l h e s =
-    record {
-      long = ap length e ∙ length-set last k x ∙ l.long;
-      most = subst (AtMost m) (sym e) (most_set m last k x l.most h);
-      sum = s;
-    }
-
 -- What holds before the interval of this number.
-pub record Turn (ticks : ℕ) (stamps before image lastTicks lastHalves : List ℕ) (allTicks allHalves place number : ℕ) : Type 0 where
-  pub first : 1 ≤ number
-  pub last : number ≤ length stamps
-  pub long : length image ≡ length before
+pub record Turn (ticks : ℕ) (stamps before image lastTicks lastHalves : List ℕ) (place number : ℕ) : Type 0 where
   pub inside : place < 8 * length before
   pub near : place + 4 ≤ 4 * number
-  pub ticked : Last 4294967295 lastTicks allTicks
-  pub halved : Last 4 lastHalves allHalves
   pub leads : Leads (8 * length before) before (halves_of ticks stamps) image place number (left stamps number lastTicks lastHalves)
 
 -- At the start the eight are alike, so that it is all one where the oldest stands.
@@ -44,76 +22,73 @@ unfolding left intervals
 start_left ticks [] h = absurd (omega arith)
 start_left ticks (s ∷ ss) h = refl
 
-most_alike : (m x k : ℕ) → x ≤ m → AtMost m (replicate k x)
-most_alike m x zero h = tt
-most_alike m x (suc k) h = (h, most_alike m x k h)
-
-start_last : (m x : ℕ) → x ≤ m → Last m (replicate 8 x) (8 * x)
-unfolding total
-start_last m x h = record { long = refl; most = most_alike m x 8 h; sum = omega arith }
-
-pub turn_start : (ticks : ℕ) (stamps before : List ℕ) → ticks ≤ 4294967295 → 1 ≤ length stamps → 1 ≤ length before
-    → Turn ticks stamps before before (replicate 8 ticks) (replicate 8 2) (8 * ticks) 16 0 1
-turn_start ticks stamps before few some room =
+pub turn_start : (ticks : ℕ) (stamps before : List ℕ) → 1 ≤ length stamps → 1 ≤ length before
+    → Turn ticks stamps before before (replicate 8 ticks) (replicate 8 2) 0 1
+turn_start ticks stamps before some room =
     record {
-      first = omega arith;
-      last = some;
-      long = refl;
       inside = omega arith;
       near = omega arith;
-      ticked = start_last 4294967295 ticks few;
-      halved = start_last 4 2 (omega arith);
       leads = subst (Leads _ before (halves_of ticks stamps) before 0 1) (start_left ticks stamps some) leads_start;
     }
 
-module _ {ticks : ℕ} {stamps before : List ℕ} where
-  module _ {image lastTicks lastHalves : List ℕ} {allTicks allHalves place number : ℕ}
-      (t : Turn ticks stamps before image lastTicks lastHalves allTicks allHalves place number) (i h : ℕ) (l : number < length stamps)
-      (interval : i ≡ between (get_or stamps (number - 1) 0) (get_or stamps number 0)) (judged : h ≡ band allTicks allHalves i) where
-    by_lists : h ≡ band (total lastTicks) (total lastHalves) i
-    by_lists = judged ∙ ap₂ (λ (x y : ℕ). band x y i) t.ticked.sum t.halved.sum
+-- What `half_cells` answers of sums, under the `?`: its number goes on, and none is refused.
+module _ {T H : ℕ} (ticks halves : List ℕ) (sum-ticks : T ≡ sum ticks) (sum-halves : H ≡ sum halves) (I : ℕ) (f : Refusal)
+    (o : Option ℕ) {r : Result ℕ Refusal} (told : MatchOption o (band T H I ≡ 0) (λ h. (h ≡ band T H I) × (1 ≤ h) × (h ≤ 4))) (asked : r ≡ ok_or o f) where
+  by_sums : band T H I ≡ band (sum ticks) (sum halves) I
+  by_sums = ap₂ (λ (x y : ℕ). band x y I) sum-ticks sum-halves
 
-    next_left : (h ≡ 0 → ⊥)
-        → left stamps number lastTicks lastHalves ≡ h ∷ left stamps (number + 1) (set lastTicks (number % 8) i) (set lastHalves (number % 8) h)
-    next_left n = left_more stamps number lastTicks lastHalves h i l interval by_lists n t.ticked.long t.halved.long
+  pub some_halves : (h : ℕ) → r ≡ Ok h → (h ≡ band (sum ticks) (sum halves) I) × (1 ≤ h) × (h ≤ 4)
+  some_halves h e = go o told asked
+    where
+      go : (o : Option ℕ) → MatchOption o (band T H I ≡ 0) (λ h. (h ≡ band T H I) × (1 ≤ h) × (h ≤ 4)) → r ≡ ok_or o f
+          → (h ≡ band (sum ticks) (sum halves) I) × (1 ≤ h) × (h ≤ 4)
+      go None m a = absurd (clash cc)
+      go (Some x) m a = let same : h ≡ x = cc in (same ∙ m.0 ∙ by_sums, omega arith, omega arith)
 
-    pub turn_zero : h ≡ 0 → LaysIntervals ticks stamps before (laid.Refused (NoBand number)) image
+  pub no_halves : (g : Refusal) {s : Result ℕ Refusal} → r ≡ Err g → IsErrAnd s (λ e. e ≡ g)
+      → (0 ≡ band (sum ticks) (sum halves) I) × (s ≡ Err f)
+  no_halves g {s} e k = go o s told asked k
+    where
+      go : (o : Option ℕ) (s : Result ℕ Refusal) → MatchOption o (band T H I ≡ 0) (λ h. (h ≡ band T H I) × (1 ≤ h) × (h ≤ 4))
+          → r ≡ ok_or o f → IsErrAnd s (λ e. e ≡ g) → (0 ≡ band (sum ticks) (sum halves) I) × (s ≡ Err f)
+      go None (Err x) m a k = let same : x ≡ f = cc in (sym m ∙ by_sums, ap Err same)
+      go None (Ok x) m a k = absurd k
+      go (Some x) s m a k = absurd (clash cc)
+
+module _ {ticks : ℕ} {stamps before image lastTicks lastHalves : List ℕ} {place number : ℕ}
+    (t : Turn ticks stamps before image lastTicks lastHalves place number) where
+  module _ (i h : ℕ) (l : number < length stamps) (interval : i ≡ between (get_or stamps (number - 1) 0) (get_or stamps number 0))
+      (judged : h ≡ band (sum lastTicks) (sum lastHalves) i) where
+    pub turn_zero : h ≡ 0 → LaysIntervals ticks stamps before (Err (NoBand number)) image
     unfolding by
     turn_zero z =
-        let refuses = leads_zero (subst (Leads _ before _ image place number) (left_zero stamps number lastTicks lastHalves h i l interval by_lists z) t.leads) in
+        let refuses = leads_zero (subst (Leads _ before _ image place number) (left_zero stamps number lastTicks lastHalves h i l interval judged z) t.leads) in
         record { answers = rw refuses; leaves = λ p. absurd (clash cc) }
 
-    pub turn_past : (h ≡ 0 → ⊥) → 8 * length before ≤ place + h → LaysIntervals ticks stamps before (laid.Refused PastImage) image
-    unfolding by
-    turn_past n past =
-        let refuses = leads_past h _ n past (subst (Leads _ before _ image place number) (next_left n) t.leads) in
-        record { answers = rw refuses; leaves = λ p. absurd (clash cc) }
+    module _ (n : h ≡ 0 → ⊥) (eight : length lastTicks ≡ 8) (eight-halves : length lastHalves ≡ 8) where
+      next_leads : Leads (8 * length before) before (halves_of ticks stamps) image place number
+          (h ∷ left stamps (number + 1) (set lastTicks (number % 8) i) (set lastHalves (number % 8) h))
+      next_leads =
+          subst (Leads _ before _ image place number) (left_more stamps number lastTicks lastHalves h i l interval judged n eight eight-halves) t.leads
 
-    pub turn_more : {nextImage nextTicks nextHalves : List ℕ} {allNextTicks allNextHalves : ℕ} → (h ≡ 0 → ⊥) → h ≤ 4 → place + h < 8 * length before
-        → nextImage ≡ with_one image (place + h) → nextTicks ≡ set lastTicks (number % 8) i → allNextTicks ≡ total nextTicks
-        → nextHalves ≡ set lastHalves (number % 8) h → allNextHalves ≡ total nextHalves
-        → Turn ticks stamps before nextImage nextTicks nextHalves allNextTicks allNextHalves (place + h) (number + 1)
-    unfolding with_one
-    turn_more {nextImage} {nextTicks} {nextHalves} {allNextTicks} {allNextHalves} n few inside image-is ticks-are ticks-sum halves_are halves-sum =
-        record {
-          first = omega arith;
-          last = omega arith;
-          long = ap length image-is ∙ length-set image _ _ ∙ t.long;
-          inside = inside;
-          near = omega (arith, t.near);
-          ticked = last_renewed (number % 8) i allNextTicks t.ticked (omega (arith, interval)) ticks-are ticks-sum;
-          halved = last_renewed (number % 8) h allNextHalves t.halved few halves_are halves-sum;
-          leads =
-              rw (image-is, ticks-are, halves_are)
-              (leads_more h _ n inside (subst (Leads _ before _ image place number) (next_left n) t.leads));
-        }
+      pub turn_past : 8 * length before ≤ place + h → LaysIntervals ticks stamps before (Err PastImage) image
+      unfolding by
+      turn_past past = let refuses = leads_past h _ n past next_leads in record { answers = rw refuses; leaves = λ p. absurd (clash cc) }
 
-  pub turn_end : {image lastTicks lastHalves : List ℕ} {allTicks allHalves place number : ℕ}
-      → Turn ticks stamps before image lastTicks lastHalves allTicks allHalves place number → length stamps ≤ number
-      → LaysIntervals ticks stamps before (laid.Cells (place + 1)) image
+      pub turn_more : {nextImage nextTicks nextHalves : List ℕ} → h ≤ 4 → place + h < 8 * length before → nextImage ≡ with_one image (place + h)
+          → nextTicks ≡ set lastTicks (number % 8) i → nextHalves ≡ set lastHalves (number % 8) h
+          → Turn ticks stamps before nextImage nextTicks nextHalves (place + h) (number + 1)
+      turn_more few room image-is ticks-are halves-are =
+          record {
+            inside = room;
+            near = omega (arith, t.near);
+            leads = rw (image-is, ticks-are, halves-are) (leads_more h _ n room next_leads);
+          }
+
+  pub turn_end : length stamps ≤ number → LaysIntervals ticks stamps before (Ok (place + 1)) image
   unfolding by with_ones runs
-  turn_end {image} {lastTicks} {lastHalves} {allTicks} {allHalves} {place} {number} t h =
+  turn_end h =
       let a = subst (Leads _ before _ image place number) (left_none stamps number lastTicks lastHalves h) t.leads in
       let passes = leads_end a in
       let long : place + 1 ≡ length (cells_of (halves_of ticks stamps)) = omega (arith, a.counted) in
-      record { answers = rw passes (ap laid.Cells long); leaves = λ p. sym a.laid }
+      record { answers = rw passes (ap Ok long); leaves = λ p. sym a.laid }

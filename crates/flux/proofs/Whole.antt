@@ -1,9 +1,8 @@
 -- The whole call: 41, 42 and the first stamp's cell before the intervals, and what a refusal leaves.
-use Rattle.std.proofs.Common.{◌≡◌, ℕ, zero, suc, ◌*◌, ◌<◌, ◌≤◌, true, false, ◌||◌, ltb, List, [], ◌∷◌, length, get_or, replicate, sym, refl, ap, ◌∙◌, arith, lit<, ltb-false, le-ltb, lt-ltb, eq-eqb, ne_eqb}
+use Rattle.std.proofs.Common.{◌≡◌, ℕ, zero, suc, ◌*◌, ◌<◌, ◌≤◌, true, false, ◌||◌, eqb, ltb, List, [], ◌∷◌, length, get_or, replicate, sym, refl, ap, ◌∙◌, arith, lit<, ltb-false, le-ltb, lt-ltb, eqb-true, is_err, Result, Ok, Err}
+use borrow.Author.Tests.{eqb-false}
 use Rattle.verdicts.specs.Tests.{Verdict, passed, refused, refusal, by}
-use Rattle.verdicts.proofs.Tests.{clash, first_passed, by_refused}
-use Rattle.flux.specs.declared.Laid.{Laid}
-use Rattle.flux.specs.declared.Laid.TheVariants as laid
+use Rattle.verdicts.proofs.Tests.{clash, first_passed}
 use Rattle.flux.specs.declared.Refusal.{Refusal}
 use Rattle.flux.specs.declared.Refusal.TheVariants.{TicksNumber, NoStamps, PastImage}
 use Rattle.flux.specs.Intervals.{halves_of}
@@ -15,36 +14,38 @@ use Rattle.flux.proofs.Ones.{length_octets}
 use Rattle.flux.proofs.Left.{laid_behind, runs_fit}
 
 module _ (ticks : ℕ) (stamps : List ℕ) (bytes : ℕ) where
-  refused_all : (f : Refusal) (after : List ℕ) → refusal (lay_tests ticks stamps bytes) ≡ refused f → LaysAll ticks stamps bytes (laid.Refused f) after
+  refused_all : (f : Refusal) (after : List ℕ) → refusal (lay_tests ticks stamps bytes) ≡ refused f → LaysAll ticks stamps bytes (Err f) after
   unfolding lay_answer by
   refused_all f after e = record { answers = rw e; leaves = λ p. absurd (clash cc) }
 
-  pub out_of_range : (after : List ℕ) → (ltb ticks least_ticks || ltb most_ticks ticks) ≡ true → LaysAll ticks stamps bytes (laid.Refused TicksNumber) after
+  pub out_of_range : (after : List ℕ) → (ltb ticks least_ticks || ltb most_ticks ticks) ≡ true → LaysAll ticks stamps bytes (Err TicksNumber) after
   unfolding lay_tests refusal
   out_of_range after wrong = refused_all TicksNumber after (rw wrong)
 
   module _ (right : (ltb ticks least_ticks || ltb most_ticks ticks) ≡ false) where
-    pub without_stamps : (after : List ℕ) → length stamps ≡ 0 → LaysAll ticks stamps bytes (laid.Refused NoStamps) after
+    pub without_stamps : (after : List ℕ) → eqb (length stamps) 0 ≡ true → LaysAll ticks stamps bytes (Err NoStamps) after
     unfolding lay_tests refusal
-    without_stamps after none = refused_all NoStamps after (rw (right, eq-eqb (length stamps) 0 none))
+    without_stamps after none = refused_all NoStamps after (rw (right, none))
 
-    module _ (some : length stamps ≡ 0 → ⊥) where
-      pub without_room : (after : List ℕ) → bytes ≡ 0 → LaysAll ticks stamps bytes (laid.Refused PastImage) after
+    module _ (some : eqb (length stamps) 0 ≡ false) where
+      pub without_room : (after : List ℕ) → eqb bytes 0 ≡ true → LaysAll ticks stamps bytes (Err PastImage) after
       unfolding lay_tests refusal
-      without_room after none = refused_all PastImage after (rw (right, ne_eqb (length stamps) 0 some, lt-ltb (8 * bytes) 1 (omega arith)))
+      without_room after none =
+          let e = eqb-true bytes 0 none in
+          refused_all PastImage after (rw (right, some, lt-ltb (8 * bytes) 1 (omega arith)))
 
-      module _ (room : bytes ≡ 0 → ⊥) where
+      module _ (room : eqb bytes 0 ≡ false) where
         -- The intervals decide.
         by_intervals : refusal (lay_tests ticks stamps bytes) ≡ refusal (interval_tests (8 * bytes) 1 1 (halves_of ticks stamps))
         unfolding lay_tests refusal
-        by_intervals = rw (right, ne_eqb (length stamps) 0 some, le-ltb (8 * bytes) 1 (omega arith))
+        by_intervals = let n = eqb-false bytes 0 room in rw (right, some, le-ltb (8 * bytes) 1 (omega arith))
 
         one_cell : (i : ℕ) → get_or (1 ∷ []) i 0 < 2
         one_cell zero = lit< tt
         one_cell (suc i) = lit< tt
 
-        pub with_intervals : (before : List ℕ) (answer : Laid) (after : List ℕ) → before ≡ image_of bytes (1 ∷ []) → LaysIntervals ticks stamps before answer after
-            → LaysAll ticks stamps bytes answer after
+        pub with_intervals : (before : List ℕ) (answer : Result ℕ Refusal) (after : List ℕ) → before ≡ image_of bytes (1 ∷ [])
+            → LaysIntervals ticks stamps before answer after → LaysAll ticks stamps bytes answer after
         unfolding lay_answer
         with_intervals before answer after e l =
             let long : length before ≡ bytes = ap length e ∙ length_octets _ 0 bytes in
@@ -57,42 +58,42 @@ module _ (ticks : ℕ) (stamps : List ℕ) (bytes : ℕ) where
 
   -- ---- what a refusal leaves
 
-  apart : (n : ℕ) (f : Refusal) → laid.Cells n ≡ laid.Refused f → ⊥
-  apart n f e = clash cc
+  -- An answer that is no refusal comes of tests that pass, and one that is, of no such.
+  passes : (answer : Result ℕ Refusal) → answer ≡ lay_answer ticks stamps bytes → is_err answer ≡ false
+      → refusal (lay_tests ticks stamps bytes) ≡ passed
+  unfolding lay_answer by
+  passes answer a ok = go (refusal (lay_tests ticks stamps bytes)) a
+    where
+      go : (v : Verdict Refusal) → answer ≡ by v (Ok (length (cells_of (halves_of ticks stamps)))) Err → v ≡ passed
+      go passed a = refl
+      go (refused f) a = let wrong : true ≡ false = ap is_err (sym a) ∙ ok in cc
 
-  one_refusal : (g f : Refusal) → laid.Refused g ≡ laid.Refused f → g ≡ f
-  one_refusal g f e = cc
-
-  pub cleared : (answer : Laid) (f : Refusal) (left after : List ℕ) → LaysAll ticks stamps bytes answer left → answer ≡ laid.Refused f
+  pub cleared : (answer : Result ℕ Refusal) (left after : List ℕ) → LaysAll ticks stamps bytes answer left → is_err answer ≡ true
       → after ≡ replicate bytes 0 → Lays ticks stamps bytes answer after
   unfolding lay_answer lay_image by
-  cleared answer f left after l e zeros =
-      let refuses = by_refused _ laid.Refused (apart _) one_refusal (refusal (lay_tests ticks stamps bytes)) answer f l.answers e in
-      record { answers = l.answers; leaves = rw refuses zeros }
-
-  passes : (answer : Laid) (n : ℕ) → answer ≡ lay_answer ticks stamps bytes → answer ≡ laid.Cells n → refusal (lay_tests ticks stamps bytes) ≡ passed
-  unfolding lay_answer by
-  passes answer n a e = go (refusal (lay_tests ticks stamps bytes)) a
+  cleared answer left after l err zeros = record { answers = l.answers; leaves = go (refusal (lay_tests ticks stamps bytes)) l.answers }
     where
-      go : (v : Verdict Refusal) → answer ≡ by v (laid.Cells (length (cells_of (halves_of ticks stamps)))) laid.Refused → v ≡ passed
-      go passed a = refl
-      go (refused f) a = absurd (apart n f (sym e ∙ a))
+      go : (v : Verdict Refusal) → answer ≡ by v (Ok (length (cells_of (halves_of ticks stamps)))) Err
+          → after ≡ by v (image_of bytes (cells_of (halves_of ticks stamps))) (λ f. replicate bytes 0)
+      go passed a = let wrong : false ≡ true = ap is_err (sym a) ∙ err in cc
+      go (refused f) a = zeros
 
-  pub kept : (answer : Laid) (n : ℕ) (after : List ℕ) → LaysAll ticks stamps bytes answer after → answer ≡ laid.Cells n → Lays ticks stamps bytes answer after
+  pub kept : (answer : Result ℕ Refusal) (after : List ℕ) → LaysAll ticks stamps bytes answer after → is_err answer ≡ false
+      → Lays ticks stamps bytes answer after
   unfolding lay_image by
-  kept answer n after l e = let p = passes answer n l.answers e in record { answers = l.answers; leaves = rw p (l.leaves p) }
+  kept answer after l ok = let p = passes answer l.answers ok in record { answers = l.answers; leaves = rw p (l.leaves p) }
 
   -- ---- how many cells there are
 
   -- The cells that were counted are in the image.
-  pub cells_fit : (answer : Laid) (n : ℕ) (after : List ℕ) → Lays ticks stamps bytes answer after → answer ≡ laid.Cells n → n ≤ 8 * bytes
+  pub cells_fit : (answer : Result ℕ Refusal) (n : ℕ) (after : List ℕ) → Lays ticks stamps bytes answer after → answer ≡ Ok n → n ≤ 8 * bytes
   unfolding lay_tests lay_answer by
   cells_fit answer n after l e =
-      let pass = passes answer n l.answers e in
+      let pass = passes answer l.answers (ap is_err e) in
       let one = first_passed (ticks_test ticks) _ pass in
       let two = first_passed (stamps_test (length stamps)) _ one.1 in
       let three = first_passed (room_test (8 * bytes) 1) _ two.1 in
       let room = runs_fit (8 * bytes) 1 1 (halves_of ticks stamps) (ltb-false (8 * bytes) 1 three.0) three.1 in
-      let same : laid.Cells n ≡ laid.Cells (length (cells_of (halves_of ticks stamps))) = sym e ∙ l.answers ∙ rw pass in
+      let same : Ok n ≡ Ok (length (cells_of (halves_of ticks stamps))) = sym e ∙ l.answers ∙ rw pass in
       let count : n ≡ length (cells_of (halves_of ticks stamps)) = cc in
       omega arith

@@ -1,6 +1,7 @@
 -- The intervals between the stamps of a capture, and the half cells that each of them is (02, Req 05; 004, 4.5.2). A nominal bit cell of MFM is two half
 -- cells, and a half cell is one cell of the image.
 use Rattle.std.specs.Prelude.{ℕ, ◌+◌, ◌-◌, ◌*◌, ◌%◌, Bool, cond, ◌&&◌, List, [], ◌∷◌, ◌++◌, drop, replicate, ◌==◌, nat_le}
+use Rattle.std.specs.List.{sum}
 
 -- The ticks in which the counter runs over: from 4,294,967,295 to 0.
 abbrev pub counter_run : ℕ
@@ -38,11 +39,6 @@ renewed xs x = drop 1 xs ++ (x ∷ [])
 abbrev pub accepted : Recent → (interval halves : ℕ) → Recent
 accepted r interval halves = record { ticks = renewed r.ticks interval; halves = renewed r.halves halves }
 
--- What the numbers of a list add up to.
-unfoldable pub total : List ℕ → ℕ
-total [] = 0
-total (x ∷ xs) = x + total xs
-
 -- With T the ticks of the last eight accepted intervals: x is from low × T to high × T, ends included.
 unfoldable pub within : (low high T x : ℕ) → Bool
 within low high T x = nat_le (low * T) x && nat_le x (high * T)
@@ -53,7 +49,7 @@ band T H I = let x = 100 * I * H in cond (within 160 240 T x) 2 (cond (within 26
 
 -- The same, by the last eight accepted intervals: T and H are sums over them.
 abbrev pub half_cells : Recent → (interval : ℕ) → ℕ
-half_cells r interval = band (total r.ticks) (total r.halves) interval
+half_cells r interval = band (sum r.ticks) (sum r.halves) interval
 
 -- The half cells of each interval, up to the first that is in no band, which has 0. Only an accepted interval comes in among the last eight.
 unfoldable pub halves_from : Recent → (intervals : List ℕ) → List ℕ

@@ -1,5 +1,5 @@
 // The band that an interval is in.
-ghost use Rattle.std.specs.Prelude.{◌≡◌, ◌≤◌};
+ghost use Rattle.std.specs.Prelude.{◌≡◌, ◌≤◌, MatchOption};
 ghost use Rattle.flux.specs.Intervals.{band};
 ghost use Rattle.flux.specs.Aids.{most_all};
 
@@ -7,29 +7,30 @@ ghost use Rattle.flux.specs.Aids.{most_all};
 // which the back end makes three or four steps.
 const TIMES: u64 = 7;
 
-// The half cells of an interval, of the ticks and the half cells of the last eight; 0 where it is in no band. The bands' upper ends are asked first, as
-// one after the other parts the bands.
-pub(crate) fn half_cells(ticks: u64, halves: u64, interval: u64) -> u64
-    requires { (ticks ≤ most_all) × (halves ≤ 32) × (interval ≤ most_all) }
-    ensures { (result ≡ band ticks halves interval) × (result ≤ 4) }
+// The half cells of an interval, of the ticks and the half cells of the last eight; none where it is in no band. The bands' upper ends are asked first,
+// as one after the other parts the bands.
+#[tactic(auto, unfolding(crate::specs::Intervals::band, crate::specs::Intervals::within))]
+pub(crate) fn half_cells(ticks: u64, halves: u64, interval: u32) -> Option<u64>
+    requires { (ticks ≤ most_all) × (halves ≤ 32) }
+    ensures { MatchOption result (band ticks halves interval ≡ 0) (λ h. (h ≡ band ticks halves interval) × (1 ≤ h) × (h ≤ 4)) }
 {
-    let compared = TIMES * (100 * interval * halves);
+    let compared = TIMES * (100 * (interval as u64) * halves);
     if compared <= TIMES * 240 * ticks {
         if TIMES * 160 * ticks <= compared {
-            return 2;
+            return Some(2);
         }
-        return 0;
+        return None;
     }
     if compared <= TIMES * 330 * ticks {
         if TIMES * 260 * ticks <= compared {
-            return 3;
+            return Some(3);
         }
-        return 0;
+        return None;
     }
     if compared <= TIMES * 450 * ticks {
         if TIMES * 370 * ticks <= compared {
-            return 4;
+            return Some(4);
         }
     }
-    0
+    None
 }

@@ -6,6 +6,7 @@ ghost use Rattle.std.specs.Prelude.{length};
 ghost use Rattle.flux.specs.Outcomes.{IsRefusalNumber, IsIntervalNumber, Lays};
 
 mod bands;
+mod last_eight;
 mod laying;
 
 // The fewest ticks of a nominal cell.
@@ -15,7 +16,7 @@ pub const LEAST_TICKS: u32 = 16;
 pub const MOST_TICKS: u32 = 1024;
 
 // Why a capture gives no cells, in the order of the papers' numbers 41 to 44.
-#[derive(Clone, Copy)]
+#[derive(Clone, Copy, Debug, PartialEq, Eq)]
 pub enum Refusal {
     // the ticks of a nominal cell are out of range
     TicksNumber,
@@ -27,23 +28,17 @@ pub enum Refusal {
     PastImage,
 }
 
-// What comes of a capture.
-#[derive(Clone, Copy)]
-pub enum Laid {
-    // the number of cells
-    Cells(u64),
-    Refused(Refusal),
-}
-
 // The number that the papers give a refusal.
-pub fn refusal_number(refusal: Refusal) -> u8
-    ensures { IsRefusalNumber refusal result }
-{
-    match refusal {
-        Refusal::TicksNumber => 41,
-        Refusal::NoStamps => 42,
-        Refusal::NoBand(_) => 43,
-        Refusal::PastImage => 44,
+impl From<Refusal> for u8 {
+    ghost from_gives = { IsRefusalNumber };
+
+    fn from(refusal: Refusal) -> u8 {
+        match refusal {
+            Refusal::TicksNumber => 41,
+            Refusal::NoStamps => 42,
+            Refusal::NoBand(_) => 43,
+            Refusal::PastImage => 44,
+        }
     }
 }
 
@@ -52,20 +47,18 @@ pub fn interval_number(refusal: Refusal) -> u64
     ensures { IsIntervalNumber refusal result }
 {
     match refusal {
-        Refusal::TicksNumber => 0,
-        Refusal::NoStamps => 0,
         Refusal::NoBand(interval) => interval,
-        Refusal::PastImage => 0,
+        _ => 0,
     }
 }
 
-// Lays the cells that the stamps give into the image, and zeros behind them, where a nominal cell takes so many ticks. A refusal leaves zeros in the
-// whole image.
-pub fn lay(ticks: u32, stamps: &[u32], image: &mut [u8]) -> Laid
+// Lays the cells that the stamps give into the image, and zeros behind them, where a nominal cell takes so many ticks: the number of cells. A refusal
+// leaves zeros in the whole image.
+pub fn lay(ticks: u32, stamps: &[u32], image: &mut [u8]) -> Result<u64, Refusal>
     ensures { Lays ticks stamps.now (length image.old) result image.new }
 {
     let answer = laying::lay_all(ticks, stamps, image);
-    if let Laid::Refused(_) = answer {
+    if answer.is_err() {
         cells::clear(image);
     }
     answer

@@ -26,7 +26,6 @@ use Rattle.pick.specs.Picks.{IsChosen, IsPicked, IsStretch}
 use Rattle.file.specs.Contents.{Content}
 use Rattle.file.specs.Outcomes.{IsRefusalNumber as IsFileRefusalNumber, IsHead, IsWhole, IsRead, Writes}
 use Rattle.flux.specs.Outcomes.{IsRefusalNumber as IsFluxRefusalNumber, IsIntervalNumber, Lays}
-use Rattle.flux.specs.declared.Laid.{Laid}
 use Rattle.flux.specs.declared.Refusal.{Refusal as FluxRefusal}
 use Rattle.file.specs.declared.Refusal.{Refusal as FileRefusal}
 use Rattle.file.specs.declared.Sections.{Sections}
@@ -234,14 +233,14 @@ request layout cylinder side sector mark contents image = by_value _
 
 -- ---- flux
 
--- refusal_number, interval_number and lay of the flux timings
+-- u8::from, interval_number and lay of the flux timings
 pub flux_refusal_number : (refusal : FluxRefusal) → Unique (IsFluxRefusalNumber refusal)
 flux_refusal_number refusal = by_value _
 
 pub flux_interval_number : (refusal : FluxRefusal) → Unique (IsIntervalNumber refusal)
 flux_interval_number refusal = by_value _
 
-pub flux_lay : (ticks : ℕ) (stamps : List ℕ) (bytes : ℕ) → Unique (λ (o : Laid × List ℕ). Lays ticks stamps bytes o.0 o.1)
+pub flux_lay : (ticks : ℕ) (stamps : List ℕ) (bytes : ℕ) → Unique (λ (o : Result ℕ FluxRefusal × List ℕ). Lays ticks stamps bytes o.0 o.1)
 flux_lay ticks stamps bytes x y p q = by_values _ _ x y (p.answers, p.leaves) (q.answers, q.leaves)
 
 -- ---- file

@@ -194,5 +194,5 @@ pub fn station_flux(ticks: u32, stamps: &[u32], image: &mut [u8], res: &mut [u64
 {
     let answer = flux::lay(ticks, stamps, image);
     *res = timings::laid_numbers(answer);
-    timings::laid_number(answer)
+    numbers::number_of(answer)
 }

@@ -24,41 +24,24 @@ pub fn large_buffer() -> [u8; 65536]
     [0; 65536]
 }
 
-// One read into the buffer.
-pub fn read_some(stdin: &impl io::Input, buffer: &mut [u8]) -> Input
-    ensures { IsPrefixLen result.«end» buffer.new }
-{
-    match stdin.reader().read(buffer) {
-        Ok(end) => Input { end, broken: None },
-        Err(why) => Input {
-            end: 0,
-            broken: Some(why),
-        },
-    }
-}
-
 // Reads until the buffer is full, the input ends or a read fails.
 pub fn read_input(stdin: &impl io::Input, buffer: &mut [u8]) -> Input
     ensures { IsPrefixLen result.«end» buffer.new }
 {
     let mut end = 0;
     while end < buffer.len() {
-        let more = read_some(stdin, &mut buffer[end..]);
-        if more.end == 0 {
-            return Input {
-                end,
-                broken: more.broken,
-            };
+        match stdin.reader().read(&mut buffer[end..]) {
+            Ok(0) => break,
+            Ok(more) => end += more,
+            Err(why) => {
+                return Input {
+                    end,
+                    broken: Some(why),
+                };
+            }
         }
-        end += more.end;
     }
     Input { end, broken: None }
-}
-
-// The program's name, before what it has to say.
-fn name(stderr: &impl Print, program: &[u8]) -> io::Result<()> {
-    stderr.write_all(program)?;
-    stderr.write_all(b": ")
 }
 
 // What the system says of an error. std puts the error's number behind that.
@@ -70,25 +53,27 @@ fn words(text: &str) -> &str {
 }
 
 // Says what failed, and why in the system's words: with no memory for those, as std has them.
-fn fail(stderr: &(impl Print + Alloc), what: &str, why: io::Error) -> io::Result<()> {
+fn fail(
+    stderr: &(impl Print + Alloc),
+    program: &str,
+    what: &str,
+    why: io::Error,
+) -> io::Result<()> {
     match why.to_string(stderr.alloc()) {
-        Ok(text) => println!(stderr; "{what}: {}", words(&text)),
-        Err(_) => println!(stderr; "{what}: {why}"),
+        Ok(text) => println!(stderr; "{program}: {what}: {}", words(&text)),
+        Err(_) => println!(stderr; "{program}: {what}: {why}"),
     }
 }
 
 // Says why a read failed, and how far it came. Nothing can be done where that can't be said; the same holds below.
-pub fn tell_broken(stderr: &(impl Print + Alloc), program: &[u8], end: usize, why: io::Error) {
-    let _ = name(stderr, program);
-    let _ = fail(stderr, "the input could not be read", why);
-    let _ = name(stderr, program);
-    let _ = println!(stderr; "bytes read before that: {end}");
+pub fn tell_broken(stderr: &(impl Print + Alloc), program: &str, end: usize, why: io::Error) {
+    let _ = fail(stderr, program, "the input could not be read", why);
+    let _ = println!(stderr; "{program}: bytes read before that: {end}");
 }
 
 // Says so where some of the output is lost.
-pub fn tell_lost(stderr: &(impl Print + Alloc), program: &[u8], printed: io::Result<()>) {
+pub fn tell_lost(stderr: &(impl Print + Alloc), program: &str, printed: io::Result<()>) {
     if let Err(why) = printed {
-        let _ = name(stderr, program);
-        let _ = fail(stderr, "the output could not be written", why);
+        let _ = fail(stderr, program, "the output could not be written", why);
     }
 }

@@ -12,4 +12,4 @@ Fits l = l.area_bytes ≤ 8192
 
 pub returns : goal.returns
 returns c =
-    subst Fits (sym c.layout_of-taken.ensures) (every_layout Fits (search rules) (search rules) (search rules) (search rules) c.args.layout)
+    subst Fits (sym c.layout_of.ensures) (every_layout Fits (search rules) (search rules) (search rules) (search rules) c.args.layout)

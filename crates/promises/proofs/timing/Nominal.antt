@@ -7,10 +7,11 @@ use Prim.Native.Nat.{ℕ, zero, suc, ◌+◌, ◌-◌, ◌*◌, ◌%◌, ◌<◌
 use native.Mathlib.Nat.{mul_assoc, mul_comm, mul-add, mul-le-mul, mul-zero}
 use native.Mathlib.Omega.{arith}
 use lib.ListN.{drop}
-use Rattle.flux.specs.Intervals.{counter_run, Recent, between, since, total, band, at_start, accepted, renewed, halves_from}
+use Rattle.std.specs.List.{sum}
+use Rattle.std.proofs.lemmas.List.Sums.{sum_by-append, sum_by-cons}
+use Rattle.flux.specs.Intervals.{counter_run, Recent, between, since, band, at_start, accepted, renewed, halves_from}
 use Rattle.flux.proofs.Ends.{two, three, four}
 use Rattle.flux.proofs.Left.{from_more}
-use Rattle.flux.proofs.Rings.{total_append}
 
 -- ---- places
 
@@ -47,12 +48,13 @@ module _ (half : ℕ) (some : 1 ≤ half) where
   -- Each of the last eight took the nominal time, and there is one.
   pub record AtSpeed (r : Recent) : Type 0 where
     pub each : r.ticks ≡ map (λ h. half * h) r.halves
-    pub filled : 1 ≤ total r.halves
+    pub filled : 1 ≤ sum r.halves
 
-  total_each : (hs : List ℕ) → total (map (λ h. half * h) hs) ≡ half * total hs
-  unfolding total
-  total_each [] = sym (mul-zero half)
-  total_each (h ∷ hs) = ap (λ (x : ℕ). half * h + x) (total_each hs) ∙ sym (mul-add half h (total hs))
+  sum_each : (hs : List ℕ) → sum (map (λ h. half * h) hs) ≡ half * sum hs
+  sum_each [] = sym (mul-zero half)
+  sum_each (h ∷ hs) =
+      sum_by-cons (λ x. x) (half * h) (map (λ h. half * h) hs) ∙ ap (λ (x : ℕ). half * h + x) (sum_each hs) ∙ sym (mul-add half h (sum hs))
+      ∙ ap (λ (x : ℕ). half * x) (sym (sum_by-cons (λ x. x) h hs))
 
   -- So an interval of h half cells is in the band of h.
   scaled : (h H : ℕ) → 100 * (half * h) * H ≡ 100 * h * (half * H)
@@ -87,16 +89,14 @@ module _ (half : ℕ) (some : 1 ≤ half) where
   each_renewed (x ∷ xs) h = each_append xs h
 
   stays : (r : Recent) (h : ℕ) → 1 ≤ h → AtSpeed r → AtSpeed (accepted r (half * h) h)
-  unfolding total
   stays r h n a =
-      let t = total_append (drop 1 r.halves) (h ∷ []) in
+      let t = sum_by-append (λ x. x) (drop 1 r.halves) (h ∷ []) in
       record {
         each = ap (λ (xs : List ℕ). renewed xs (half * h)) a.each ∙ each_renewed r.halves h;
         filled = omega (arith, t);
       }
 
   pub start_speed : AtSpeed (at_start (half * 2))
-  unfolding total
   start_speed = record { each = refl; filled = omega arith }
 
   -- ---- stamps
@@ -119,9 +119,9 @@ module _ (half : ℕ) (some : 1 ≤ half) where
         let e : l + h ≡ p = omega (arith, s.0) in
         let is : between (stamp half start l) (stamp half start p) ≡ half * h = ap (λ (x : ℕ). between (stamp half start l) (stamp half start x)) (sym e) ∙ interval l h (omega (arith, s.1)) in
         let f : Few h = few h (omega (arith, s.0)) (omega (arith, s.1)) in
-        let T : total r.ticks ≡ half * total r.halves = ap total a.each ∙ total_each r.halves in
-        let b : band (total r.ticks) (total r.halves) (half * h) ≡ h =
-        ap (λ (x : ℕ). band x (total r.halves) (half * h)) T ∙ in_band (total r.halves) h a.filled f in
+        let T : sum r.ticks ≡ half * sum r.halves = ap sum a.each ∙ sum_each r.halves in
+        let b : band (sum r.ticks) (sum r.halves) (half * h) ≡ h =
+        ap (λ (x : ℕ). band x (sum r.halves) (half * h)) T ∙ in_band (sum r.halves) h a.filled f in
         ap (λ (x : ℕ). halves_from r (x ∷ since (stamp half start p) (map (stamp half start) ps))) is
         ∙ from_more r (half * h) (since (stamp half start p) (map (stamp half start) ps)) h b (omega (arith, s.0))
         ∙ ap (λ (hs : List ℕ). h ∷ hs) (judged (accepted r (half * h) h) p ps (stays r h (omega (arith, s.0)) a) s.2)

@@ -9,7 +9,8 @@ use lib.Dec.{eqb, ltb}
 use lib.ListN.{length}
 use Rattle.verdicts.specs.Tests.{Verdict, passed, refused, refusal}
 use Rattle.verdicts.proofs.Tests.{clash, first_passed}
-use Rattle.flux.specs.Intervals.{Recent, between, since, intervals, within, band, half_cells, total, at_start, accepted, halves_from}
+use Rattle.std.specs.List.{sum}
+use Rattle.flux.specs.Intervals.{Recent, between, since, intervals, within, band, half_cells, at_start, accepted, halves_from}
 use Rattle.flux.specs.Images.{runs}
 use Rattle.flux.specs.Refusals.{ticks_test, stamps_test, band_test, room_test, interval_tests, lay_tests}
 use Rattle.flux.specs.declared.Refusal.{Refusal}
@@ -105,7 +106,7 @@ many : (room cells number : ℕ) (r : Recent) (is : List ℕ) → refusal (inter
 unfolding halves_from
 many room cells number r [] e = omega arith
 many room cells number r (i ∷ is) e =
-    go (half_cells r i) (eqb (half_cells r i) 0) refl (band_least (total r.ticks) (total r.halves) i)
+    go (half_cells r i) (eqb (half_cells r i) 0) refl (band_least (sum r.ticks) (sum r.halves) i)
     (many room (cells + half_cells r i) (suc number) (accepted r i (half_cells r i)) is) e
   where
     go : (h : ℕ) (b : Bool) → eqb h 0 ≡ b → ((h ≡ 0 → ⊥) → 2 ≤ h)

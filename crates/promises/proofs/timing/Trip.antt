@@ -7,6 +7,7 @@ use native.Mathlib.Omega.{arith}
 use borrow.Author.Tests.{ne_eqb, le-ltb, ltb-true, ltb-false}
 use lib.Dec.{ltb}
 use lib.ListN.{length, get_or, get_or-eq_default}
+use Rattle.std.proofs.Common.{Ok}
 use Rattle.cells.specs.Cells.{cell}
 use Rattle.cells.proofs.Bytes.{cell_past}
 use Rattle.cells.proofs.Joined.{cell_lt}
@@ -14,10 +15,10 @@ use Rattle.verdicts.specs.Tests.{passed, refusal, by}
 use Rattle.flux.specs.Intervals.{since, intervals, halves_from, halves_of, at_start}
 use Rattle.flux.specs.Images.{runs, octets, cells_of, image_of}
 use Rattle.flux.specs.Outcomes.{lay_answer, lay_image}
-use Rattle.flux.specs.Refusals.{least_ticks, most_ticks, lay_tests}
-use Rattle.flux.specs.declared.Laid.TheVariants as laid
+use Rattle.flux.specs.Refusals.{refusal_number, least_ticks, most_ticks, lay_tests}
 use Rattle.flux.proofs.Ones.{listed, length_octets, octets_at, octet_cell}
-use Rattle.station.specs.Timings.{laid_number, laid_numbers, GivesFlux}
+use Rattle.station.specs.Numbers.{number_of}
+use Rattle.station.specs.Timings.{laid_numbers, GivesFlux}
 use Rattle.promises.specs.Timings.{ones, nominal, Halved, Paced, UpToTheLast, ComesBack, TimingsComeBack}
 use Rattle.promises.proofs.timing.Nominal.{Steps, gaps, stamp, judged, start_speed}
 use Rattle.promises.proofs.timing.Between.{steps, cells_are, last_one, roomy, ones_there, empty_none}
@@ -119,7 +120,7 @@ module _ (ticks start bytes : ℕ) (image : List ℕ) (even : Halved ticks) (pac
           let zero-here : cell image i ≡ 0 = omega arith in
           cell_past (image_of bytes (cells_of between)) i (omega arith) ∙ sym zero-here
 
-  answer_is : lay_answer ticks (nominal ticks start image) bytes ≡ laid.Cells (length (cells_of between))
+  answer_is : lay_answer ticks (nominal ticks start image) bytes ≡ Ok (length (cells_of between))
   unfolding lay_answer by
   answer_is = rw (accepted, halves_are)
 
@@ -131,7 +132,7 @@ module _ (ticks start bytes : ℕ) (image : List ℕ) (even : Halved ticks) (pac
       → ComesBack image number captured result
   comes_back number captured result p =
       record {
-        accepted = p.numbered ∙ ap laid_number answer_is;
+        accepted = p.numbered ∙ ap (number_of refusal_number) answer_is;
         counted =
             subst (UpToTheLast image) (sym (ap (λ (xs : List ℕ). get_or xs 0 0) (p.counted ∙ ap laid_numbers answer_is))) up_to_the_last;
         cells = λ i. ap (λ (xs : List ℕ). cell xs i) (p.leaves ∙ captured_is) ∙ cell_back i;

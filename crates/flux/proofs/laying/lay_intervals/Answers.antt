@@ -1,71 +1,47 @@
 -- `lay_intervals` meets its contract: what is left of the intervals leads where all of them do.
-use Rattle.std.proofs.Common.{arith}
-use Rattle.flux.proofs.Turns.{last_most, turn_start, turn_zero, turn_past, turn_more, turn_end}
+use Rattle.std.proofs.Common.{◌≡◌, ◌≤◌, refl, arith}
+use Rattle.std.specs.List.{sum}
+use Rattle.flux.specs.Intervals.{band}
+use Rattle.flux.specs.declared.Refusal.TheVariants.{NoBand}
+use Rattle.flux.proofs.Turns.{turn_start, some_halves, no_halves, turn_zero, turn_past, turn_more, turn_end}
 use Rattle.flux.proofs.laying.lay_intervals.Goals as goal
+use Rattle.flux.proofs.laying.lay_intervals.Goals.{In_ok-halves}
 
 pub loop-number-init : goal.loop-number-init
-loop-number-init c = turn_start _ _ _ (omega arith) c.requires.0 c.requires.1
+loop-number-init c = rw (c.new-last_ticks.ensures, c.new-last_halves.ensures) (turn_start _ _ _ c.requires.0 c.requires.1)
 
-pub overflow_sub-number : goal.overflow_sub-number
-overflow_sub-number c = c.loop-number.invariant.first
+pub returns-in_err-halves : goal.returns-in_err-halves
+returns-in_err-halves c =
+    let l = c.loop-number in
+    let none = no_halves l.last_ticks.numbers l.last_halves.numbers l.last_ticks.summed l.last_halves.summed _ (NoBand l.number) _
+    c.half_cells-band.ensures c.ok_or.ensures.value _ c.in_err-halves.was c.from_residual.ensures.1 in
+    rw none.1 (turn_zero l.invariant _ 0 c.loop-number-test.true c.ticks_between-interval.ensures none.0 refl)
 
-pub offset_bounds-stamps-number : goal.offset_bounds-stamps-number
-offset_bounds-stamps-number c = omega (arith, c.loop-number-test.true, c.well_formed)
+-- The half cells that go on are the band's.
+some : (c : In_ok-halves)
+    → (c.in_ok-halves.halves ≡ band (sum c.loop-number.last_ticks.numbers) (sum c.loop-number.last_halves.numbers) c.ticks_between-interval.result)
+    × (1 ≤ c.in_ok-halves.halves) × (c.in_ok-halves.halves ≤ 4)
+some c =
+    let l = c.loop-number in
+    some_halves l.last_ticks.numbers l.last_halves.numbers l.last_ticks.summed l.last_halves.summed _ (NoBand l.number) _ c.half_cells-band.ensures
+    c.ok_or.ensures.value _ c.in_ok-halves.was
 
-pub half_cells-halves-requires : goal.half_cells-halves-requires
-half_cells-halves-requires c =
-    let t = c.loop-number.invariant in
-    (last_most t.ticked, last_most t.halved, omega (arith, c.ticks_between-interval.ensures))
-
-pub shape_of-image-then-halves-eq0 : goal.shape_of-image-then-halves-eq0
-shape_of-image-then-halves-eq0 c = c.loop-number.invariant.long
-
-pub returns-then-halves-eq0 : goal.returns-then-halves-eq0
-returns-then-halves-eq0 c =
-    turn_zero c.loop-number.invariant _ _ c.loop-number-test.true c.ticks_between-interval.ensures c.half_cells-halves.ensures.0 c.if-halves-eq0.true
-
-pub overflow_add-place : goal.overflow_add-place
-overflow_add-place c =
-    omega (arith, c.half_cells-halves.ensures.1, c.loop-number.invariant.near, c.loop-number-test.true, c.well_formed)
-
-pub shape_of-image-then-image-place : goal.shape_of-image-then-image-place
-shape_of-image-then-image-place c = c.loop-number.invariant.long
+positive : (c : In_ok-halves) → c.in_ok-halves.halves ≡ 0 → ⊥
+positive c e = let s = some c in absurd (omega arith)
 
 pub returns-then-image-place : goal.returns-then-image-place
 returns-then-image-place c =
-    turn_past c.loop-number.invariant _ _ c.loop-number-test.true c.ticks_between-interval.ensures c.half_cells-halves.ensures.0 c.if-halves-eq0.false
-    (omega (arith, c.if-image-place.true, c.loop-number.invariant.long))
-
-pub put_one-requires : goal.put_one-requires
-put_one-requires c =
-    omega (arith, c.if-image-place.false)
-
-pub renew-all_ticks-requires : goal.renew-all_ticks-requires
-renew-all_ticks-requires c =
-    let t = c.loop-number.invariant in
-    (t.ticked.long, t.ticked.sum, last_most t.ticked, omega (arith, c.ticks_between-interval.ensures))
-
-pub renew-all_halves-requires : goal.renew-all_halves-requires
-renew-all_halves-requires c =
-    let t = c.loop-number.invariant in (
-      t.halved.long,
-      t.halved.sum,
-      omega (arith, last_most t.halved),
-      omega (arith, c.half_cells-halves.ensures.1),
-    )
+    let l = c.loop-number in
+    let b = (goal.at.returns-then-image-place c).In_ok-halves in
+    turn_past l.invariant _ _ c.loop-number-test.true c.ticks_between-interval.ensures (some b).0 (positive b) l.last_ticks.eight l.last_halves.eight
+    (omega arith)
 
 pub loop-number-preserved : goal.loop-number-preserved
 loop-number-preserved c =
-    let t = c.loop-number.invariant in
-    turn_more t _ _ c.loop-number-test.true c.ticks_between-interval.ensures c.half_cells-halves.ensures.0 c.if-halves-eq0.false
-    c.half_cells-halves.ensures.1 (omega (arith, c.if-image-place.false, t.long)) c.put_one.ensures c.renew-all_ticks.ensures.kept c.renew-all_ticks.ensures.sum
-    c.renew-all_halves.ensures.kept c.renew-all_halves.ensures.sum
-
-pub overflow_add-result : goal.overflow_add-result
-overflow_add-result c = omega (arith, c.loop-number.invariant.near, c.loop-number.invariant.last, c.well_formed)
-
-pub shape_of-image : goal.shape_of-image
-shape_of-image c = c.loop-number.invariant.long
+    let l = c.loop-number in
+    let b = (goal.at.loop-number-preserved c).In_ok-halves in
+    turn_more l.invariant _ _ c.loop-number-test.true c.ticks_between-interval.ensures (some b).0 (positive b) l.last_ticks.eight l.last_halves.eight
+    (some b).2 (omega arith) c.put_one.ensures c.renew.ensures c.renew-in-loop-number.ensures
 
 pub returns : goal.returns
 returns c = turn_end c.loop-number.invariant c.loop-number-test.false
