@@ -30,7 +30,7 @@ module _ (s x : ℕ) (before : Located) (event : Event) (block : Block) (is : ev
   after_other h = rw (is, ne_eqb x s h)
 
 module _ (s : ℕ) where
-  located_after_lem : (xs : List Event) (e : Event) → located (blocks s (xs ++ e ∷ [])) ≡ located_after s (located (blocks s xs)) e
+  pub located_after_lem : (xs : List Event) (e : Event) → located (blocks s (xs ++ e ∷ [])) ≡ located_after s (located (blocks s xs)) e
   unfolding blocks
   located_after_lem xs Bad = ap located (blocks_bad s xs)
   located_after_lem xs Foreign = ap located (blocks_foreign s xs)
@@ -39,30 +39,3 @@ module _ (s : ℕ) where
       by : (h : Bool) → located (blocks s xs ++ cond h (b ∷ []) []) ≡ cond h (located_next (located (blocks s xs)) b) (located (blocks s xs))
       by true = located_next_lem (blocks s xs) b
       by false = ap located (append-nil (blocks s xs))
-
-  -- The search holds what the events met so far give, and these are left of all.
-  pub record Held (all left : List Event) (found : Located) : Type 0 where
-    pub done : List Event
-    pub whole : all ≡ done ++ left
-    pub holds : found ≡ located (blocks s done)
-
-  pub held_start : (all left : List Event) → all ≡ left → Held all left Unmet
-  unfolding blocks located
-  held_start all left e = record { done = []; whole = e; holds = refl }
-
-  module _ {all left rest : List Event} {found : Located} (held : Held all left found) where
-    pub held_left : left ≡ rest → Held all rest found
-    held_left f = record { done = held.done; whole = held.whole ∙ ap (λ x. held.done ++ x) f; holds = held.holds }
-
-    pub held_turn : (e : Event) {found' : Located} → left ≡ e ∷ rest → found' ≡ located_after s found e → Held all rest found'
-    held_turn e f g =
-        record {
-          done = held.done ++ e ∷ [];
-          whole = held.whole ∙ ap (λ x. held.done ++ x) f ∙ sym (append_assoc held.done (e ∷ []) rest);
-          holds = g ∙ rw held.holds (sym (located_after_lem held.done e));
-        }
-
-  pub held_end : {all left : List Event} {found : Located} → Held all left found → left ≡ [] → found ≡ located (blocks s all)
-  held_end {all} held f =
-      let e : held.done ≡ all = sym (append-nil held.done) ∙ ap (λ x. held.done ++ x) (sym f) ∙ sym held.whole in
-      rw (← e) held.holds

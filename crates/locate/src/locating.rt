@@ -8,7 +8,7 @@ ghost use Rattle.locate.specs.Turns.{located_next, located_after};
 
 use super::Located;
 use layouts::Track;
-use walk::{Block, Event, Round};
+use walk::{Block, Event};
 
 // Where the sector's block is, once one more of its identifiers was accepted.
 fn located_next(before: Located, block: Block) -> Located
@@ -43,19 +43,8 @@ pub(crate) fn locate_block(track: Track, sector: usize, image: &[u8]) -> Located
     ensures { result ≡ located (blocks sector (met track image.now)) }
 {
     let mut found = Located::Unmet;
-    let mut at = 0;
-    let end = 8 * image.len();
-    while at < end {
-        let round = walk::next_round(track, image, at);
-        match round {
-            Round::Ends => {
-                at = end;
-            }
-            Round::Meets(event, next) => {
-                found = located_after(sector, found, event);
-                at = next;
-            }
-        }
+    for event in walk::met(track, image) {
+        found = located_after(sector, found, event);
     }
     found
 }

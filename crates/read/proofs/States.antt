@@ -79,10 +79,8 @@ module _ (t : Track) (c : ℕ → ℕ) (n : ℕ) where
 
   -- ---- the state
 
-  -- The reader holds what the events met so far give, and these are left of all.
-  pub record State (all left : List Event) (records : List Record) (area : List ℕ) (bad foreign : ℕ) : Type 0 where
-    pub done : List Event
-    pub whole : all ≡ done ++ left
+  -- The reader holds what the events met so far give.
+  pub record State (done : List Event) (records : List Record) (area : List ℕ) (bad foreign : ℕ) : Type 0 where
     pub has_records : records ≡ records_of t c n done
     pub has_area : area ≡ area_of t c n done
     pub has_bad : bad ≡ bads done
@@ -97,13 +95,10 @@ module _ (t : Track) (c : ℕ → ℕ) (n : ℕ) where
       by false = refl
 
   -- At the start nothing has been met.
-  pub state_start : (all left : List Event) (area : List ℕ) → all ≡ left → area ≡ replicate (t.layout.sectors * t.layout.size) 0
-      → State all left unread_records area 0 0
+  pub state_start : (area : List ℕ) → area ≡ replicate (t.layout.sectors * t.layout.size) 0 → State [] unread_records area 0 0
   unfolding bads foreigns records_of area_of
-  state_start all left area e a =
+  state_start area a =
       record {
-        done = [];
-        whole = e;
         has_records =
             sym (map_all (λ s. (sector_of t c n [] s).known) unread (λ s. ap (λ (x : Sector). x.known) (nothing_met s)) most_sectors 1);
         has_area =
@@ -113,72 +108,37 @@ module _ (t : Track) (c : ℕ → ℕ) (n : ℕ) where
         has_foreign = refl;
       }
 
-  module _ {all left rest : List Event} {records : List Record} {area : List ℕ} {bad foreign : ℕ}
-      (state : State all left records area bad foreign) where
-    -- The same is left, said otherwise.
-    pub state_left : left ≡ rest → State all rest records area bad foreign
-    state_left f =
-        record {
-          done = state.done;
-          whole = state.whole ∙ ap (λ x. state.done ++ x) f;
-          has_records = state.has_records;
-          has_area = state.has_area;
-          has_bad = state.has_bad;
-          has_foreign = state.has_foreign;
-        }
-
-    onto : (e : Event) → left ≡ e ∷ rest → all ≡ (state.done ++ e ∷ []) ++ rest
-    onto e f = state.whole ∙ ap (λ x. state.done ++ x) f ∙ sym (append_assoc state.done (e ∷ []) rest)
-
-    pub state_bad : left ≡ Bad ∷ rest → State all rest records area (bad + 1) foreign
+  module _ {done : List Event} {records : List Record} {area : List ℕ} {bad foreign : ℕ} (state : State done records area bad foreign) where
+    pub state_bad : State (done ++ Bad ∷ []) records area (bad + 1) foreign
     unfolding bads foreigns
-    state_bad f =
+    state_bad =
         record {
-          done = state.done ++ Bad ∷ [];
-          whole = onto Bad f;
-          has_records = state.has_records ∙ sym (records_kept _ _ (λ s. blocks_bad s state.done));
-          has_area = state.has_area ∙ sym (area_kept _ _ (λ s. blocks_bad s state.done));
-          has_bad = ap (λ (k : ℕ). k + 1) state.has_bad ∙ sym (bads_append state.done (Bad ∷ []));
-          has_foreign = omega (arith, state.has_foreign, foreigns_append state.done (Bad ∷ []));
+          has_records = state.has_records ∙ sym (records_kept _ _ (λ s. blocks_bad s done));
+          has_area = state.has_area ∙ sym (area_kept _ _ (λ s. blocks_bad s done));
+          has_bad = ap (λ (k : ℕ). k + 1) state.has_bad ∙ sym (bads_append done (Bad ∷ []));
+          has_foreign = omega (arith, state.has_foreign, foreigns_append done (Bad ∷ []));
         }
 
-    pub state_foreign : left ≡ Foreign ∷ rest → State all rest records area bad (foreign + 1)
+    pub state_foreign : State (done ++ Foreign ∷ []) records area bad (foreign + 1)
     unfolding bads foreigns
-    state_foreign f =
+    state_foreign =
         record {
-          done = state.done ++ Foreign ∷ [];
-          whole = onto Foreign f;
-          has_records = state.has_records ∙ sym (records_kept _ _ (λ s. blocks_foreign s state.done));
-          has_area = state.has_area ∙ sym (area_kept _ _ (λ s. blocks_foreign s state.done));
-          has_bad = omega (arith, state.has_bad, bads_append state.done (Foreign ∷ []));
-          has_foreign = ap (λ (k : ℕ). k + 1) state.has_foreign ∙ sym (foreigns_append state.done (Foreign ∷ []));
+          has_records = state.has_records ∙ sym (records_kept _ _ (λ s. blocks_foreign s done));
+          has_area = state.has_area ∙ sym (area_kept _ _ (λ s. blocks_foreign s done));
+          has_bad = omega (arith, state.has_bad, bads_append done (Foreign ∷ []));
+          has_foreign = ap (λ (k : ℕ). k + 1) state.has_foreign ∙ sym (foreigns_append done (Foreign ∷ []));
         }
 
-    pub state_accepted : (s : ℕ) (b : Block) {records' : List Record} {area' : List ℕ} → left ≡ Accepted s b ∷ rest
+    pub state_accepted : (s : ℕ) (b : Block) {records' : List Record} {area' : List ℕ}
         → t.layout.sectors ≤ most_sectors → 1 ≤ t.layout.size → 1 ≤ s → s ≤ t.layout.sectors
         → records' ≡ set records (s - 1) (next t c n (get_or records (s - 1) no_record).answer b).known
         → area' ≡ sets area ((s - 1) * t.layout.size) (next t c n (get_or records (s - 1) no_record).answer b).slot
-        → State all rest records' area' bad foreign
+        → State (done ++ Accepted s b ∷ []) records' area' bad foreign
     unfolding bads foreigns
-    state_accepted s b f few some low high r a =
+    state_accepted s b few some low high r a =
         record {
-          done = state.done ++ Accepted s b ∷ [];
-          whole = onto (Accepted s b) f;
-          has_records = r ∙ rw state.has_records (sym (records_next state.done s few low high b));
-          has_area = a ∙ rw (state.has_records, state.has_area) (sym (area_next state.done s few low high some b));
-          has_bad = omega (arith, state.has_bad, bads_append state.done (Accepted s b ∷ []));
-          has_foreign = omega (arith, state.has_foreign, foreigns_append state.done (Accepted s b ∷ []));
+          has_records = r ∙ rw state.has_records (sym (records_next done s few low high b));
+          has_area = a ∙ rw (state.has_records, state.has_area) (sym (area_next done s few low high some b));
+          has_bad = omega (arith, state.has_bad, bads_append done (Accepted s b ∷ []));
+          has_foreign = omega (arith, state.has_foreign, foreigns_append done (Accepted s b ∷ []));
         }
-
-  -- Where nothing is left, all has been met.
-  pub state_end : {all left : List Event} {records : List Record} {area : List ℕ} {bad foreign : ℕ}
-      → State all left records area bad foreign → left ≡ []
-      → (records ≡ records_of t c n all)
-      × (area ≡ area_of t c n all) × (bad ≡ bads all) × (foreign ≡ foreigns all)
-  state_end {all} state f =
-      let e : state.done ≡ all = sym (append-nil state.done) ∙ ap (λ x. state.done ++ x) (sym f) ∙ sym state.whole in (
-        rw (← e) state.has_records,
-        rw (← e) state.has_area,
-        rw (← e) state.has_bad,
-        rw (← e) state.has_foreign,
-      )

@@ -11,7 +11,7 @@ use super::Reading;
 use super::blocks::next_record;
 use answers::{Answer, Record};
 use layouts::Track;
-use walk::{Block, Event, Round};
+use walk::{Block, Event};
 
 // A sector's record, and its slot in the area, once one more of its identifiers was accepted.
 fn enter(
@@ -40,29 +40,18 @@ pub(crate) fn read_track(track: Track, image: &[u8], area: &mut [u8]) -> Reading
     // in this order, in which the back end holds the bad ones in a register: noise is full of them
     let mut foreign: u32 = 0;
     let mut bad: u32 = 0;
-    let mut place = 0;
-    let end = 8 * image.len();
-    while place < end {
-        let round = walk::next_round(track, image, place);
-        match round {
-            Round::Ends => {
-                place = end;
+    for event in walk::met(track, image) {
+        match event {
+            Event::Bad => {
+                bad += 1;
             }
-            Round::Meets(event, next) => {
-                match event {
-                    Event::Bad => {
-                        bad += 1;
-                    }
-                    Event::Foreign => {
-                        foreign += 1;
-                    }
-                    Event::Accepted(sector, block) => {
-                        let before = records[sector - 1].answer;
-                        let after = enter(track, image, before, sector, block, area);
-                        records[sector - 1] = after;
-                    }
-                }
-                place = next;
+            Event::Foreign => {
+                foreign += 1;
+            }
+            Event::Accepted(sector, block) => {
+                let before = records[sector - 1].answer;
+                let after = enter(track, image, before, sector, block, area);
+                records[sector - 1] = after;
             }
         }
     }

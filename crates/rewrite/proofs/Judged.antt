@@ -18,8 +18,7 @@ use Rattle.std.specs.Prelude.{⊤, Result, Ok, Err, IsErrAnd}
 use Rattle.calls.proofs.Refusals.{or_right, told_passed, then_passed, answer_refused, answer_passed, answer_handed}
 use Rattle.marks.specs.Marks.{mark_byte, mark_of}
 use Rattle.marks.specs.declared.Mark.TheVariants.{Data, Control}
-use Rattle.search.specs.Search.{block_marks, is_found, standing, is_standing}
-use Rattle.search.specs.declared.Found.{Found}
+use Rattle.search.specs.Search.{block_marks, standing, is_standing, Found}
 use Rattle.verdicts.specs.Tests.{refusal, by}
 use Rattle.verdicts.proofs.Tests.{clash, first_passed}
 use Rattle.rewrite.specs.Stores.{stored, no_store, block_end, stores, store_count}
@@ -29,6 +28,7 @@ use Rattle.rewrite.specs.declared.Plan.{Plan}
 use Rattle.rewrite.specs.declared.Store.{Store}
 use Rattle.rewrite.proofs.Counted.{size_small, count_most}
 use Rattle.rewrite.proofs.Listed.{stores_count, kind, inside}
+use Rattle.std.specs.Prelude.{is_some}
 
 -- ---- a mark at a place
 
@@ -49,12 +49,12 @@ module _ (l : Layout) (image : List ℕ) (place : ℕ) where
 
     -- Within the image the mark that its byte begins decides.
     pub by_mark : end ≤ length image → (f : Found)
-        → f ≡ standing l.mode (cell image) (8 * length image) block_marks (8 * (place / 8)) → is_found f ≡ holds_block l image place
+        → f ≡ standing l.mode (cell image) (8 * length image) block_marks (8 * (place / 8)) → is_some f ≡ holds_block l image place
     unfolding holds_block is_standing
     by_mark h f e =
         let whole : 8 * (place / 8) ≡ place = omega arith in
         rw (eq-eqb (place % 8) 0 boundary, le-leb (place + block_cells l) (8 * length image) (omega (arith, end_cells)))
-        (ap is_found (rw whole at e))
+        (ap is_some (rw whole at e))
 
   -- What it says where it holds.
   holds_known : holds_block l image place ≡ true → (place % 8 ≡ 0) × (place + block_cells l ≤ 8 * length image)

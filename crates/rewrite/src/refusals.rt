@@ -9,7 +9,7 @@ use super::Plan;
 use super::values::{block_end, count_of};
 use calls::Refusal;
 use layouts::Layout;
-use search::{BLOCK_MARKS, Found};
+use search::BLOCK_MARKS;
 
 // Whether a data, control or open mark stands at `place` on a byte boundary, with its block within the image.
 fn holds_block(layout: Layout, image: &[u8], place: usize) -> bool
@@ -23,10 +23,7 @@ fn holds_block(layout: Layout, image: &[u8], place: usize) -> bool
         return false;
     }
     let mode = layout.mode;
-    let Found::At(_, _) = search::mark_at(mode, BLOCK_MARKS, image, place / 8) else {
-        return false;
-    };
-    true
+    search::mark_at(mode, BLOCK_MARKS, image, place / 8).is_some()
 }
 
 // 4, 1, 5, 6, 13, 12: the tests of a step. `layout` is the plan's.

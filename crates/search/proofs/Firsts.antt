@@ -1,5 +1,5 @@
 -- What a search's answer says: where the mark lies, that it stands there, and that nothing stands before it.
-use mathlib.Core.Path.{◌≡◌, refl, subst}
+use mathlib.Core.Path.{◌≡◌, refl, sym, ap, subst}
 use mathlib.Core.Bool.{Bool, true, false, ◌&&◌, and-eq-true_iff}
 use mathlib.Core.Logic.{⊎_elim}
 use Prim.Native.Nat.{ℕ, zero, suc, ◌+◌, ◌-◌, ◌≤◌, ◌<◌}
@@ -7,12 +7,12 @@ use native.Mathlib.Nat.{eq-or-lt_of_le}
 use native.Mathlib.Omega.{arith}
 use Rattle.cells.specs.declared.Mode.{Mode}
 use Rattle.marks.specs.Marks.{stands}
-use Rattle.search.specs.Search.{Place, nowhere, at, find, among, choose, sought, standing, is_standing, named, first_mark}
+use Rattle.search.specs.Search.{find, among, choose, sought, standing, is_standing, named, first_mark, Found}
 use Rattle.marks.specs.declared.Mark.{Mark}
 use Rattle.marks.specs.declared.Mark.TheVariants.{Identifier, Data, Control, Open}
 use Rattle.search.specs.declared.Kinds.{Kinds}
-use Rattle.search.specs.declared.Found.{Found}
-use Rattle.search.specs.declared.Found.TheVariants.{At, Nothing}
+use Rattle.std.specs.Prelude.{Some, None, Option}
+use Rattle.std.proofs.lemmas.Option.{none-some, same_Some}
 
 -- The test holds at i, the first of the k places from p on.
 pub record Hit (test : ℕ → Bool) (k p i : ℕ) : Type 0 where
@@ -25,9 +25,9 @@ pub record Hit (test : ℕ → Bool) (k p i : ℕ) : Type 0 where
 from_next : (Q : ℕ → Type 0) (p w : ℕ) → Q p → (suc p ≤ w → Q w) → p ≤ w → Q w
 from_next Q p w a b h = ⊎_elim (λ (e : p ≡ w). subst Q e a) b (eq-or-lt_of_le h)
 
-pub find_hits : (test : ℕ → Bool) (k p i : ℕ) → find test k p ≡ at i → Hit test k p i
+pub find_hits : (test : ℕ → Bool) (k p i : ℕ) → find test k p ≡ Some i → Hit test k p i
 unfolding find
-find_hits test zero p i e = let z : ◌≡◌ {A = ℕ} 0 1 = cc in absurd (omega arith)
+find_hits test zero p i e = absurd (none-some _ e)
 find_hits test (suc k) p i e = go (find_hits test k (suc p) i) (test p) refl e
   where
     later : test p ≡ false → Hit test k (suc p) i → Hit test (suc k) p i
@@ -42,8 +42,8 @@ find_hits test (suc k) p i e = go (find_hits test k (suc p) i) (test p) refl e
     here : test p ≡ true → p ≡ i → Hit test (suc k) p i
     here q s = record { low = omega arith; high = omega arith; holds = rw s at q; none = λ w a b. absurd (omega arith) }
 
-    go : (find test k (suc p) ≡ at i → Hit test k (suc p) i)
-        → (b : Bool) → test p ≡ b → elim b [ true ↦ at p | false ↦ find test k (suc p) ] ≡ at i → Hit test (suc k) p i
+    go : (find test k (suc p) ≡ Some i → Hit test k (suc p) i)
+        → (b : Bool) → test p ≡ b → elim b [ true ↦ Some p | false ↦ find test k (suc p) ] ≡ Some i → Hit test (suc k) p i
     go ih true q e = here q (cc)
     go ih false q e = later q (ih e)
 
@@ -53,20 +53,18 @@ module _ (mode : Mode) (c : ℕ → ℕ) (n : ℕ) (kinds : Kinds) where
     pub looked : among kinds mark ≡ true
     pub standing_there : stands mode c n mark p ≡ true
 
-  pub stood : (p q : ℕ) (mark : Mark) → standing mode c n kinds p ≡ At q mark → (q ≡ p) × Stood p mark
+  pub stood : (p q : ℕ) (mark : Mark) → standing mode c n kinds p ≡ Some (q, mark) → (q ≡ p) × Stood p mark
   unfolding standing sought
   stood p q mark e =
-      try Identifier (λ e. try Data (λ e. try Control (λ e. try Open (λ e. nothing e) _ refl e) _ refl e) _ refl e) _ refl e
+      try Identifier (λ e. try Data (λ e. try Control (λ e. try Open (λ e. absurd (none-some _ e)) _ refl e) _ refl e) _ refl e) _ refl e
     where
-      nothing : Nothing ≡ At q mark → (q ≡ p) × Stood p mark
-      nothing e = let z : ◌≡◌ {A = ℕ} 0 1 = cc in absurd (omega arith)
-
-      try : (k : Mark) {other : Found} → (other ≡ At q mark → (q ≡ p) × Stood p mark)
-          → (b : Bool) → (among kinds k && stands mode c n k p) ≡ b → choose b (At p k) other ≡ At q mark → (q ≡ p) × Stood p mark
+      try : (k : Mark) {other : Found} → (other ≡ Some (q, mark) → (q ≡ p) × Stood p mark)
+          → (b : Bool) → (among kinds k && stands mode c n k p) ≡ b → choose b (Some (p, k)) other ≡ Some (q, mark) → (q ≡ p) × Stood p mark
       try k rest true s e =
           let both = (and-eq-true_iff (among kinds k) (stands mode c n k p)).0 s in
-          let same : k ≡ mark = cc in
-          (cc, record { looked = rw (← same) both.0; standing_there = rw (← same) both.1 })
+          let found = same_Some _ _ e in
+          let kind : k ≡ mark = ap (λ x. x.1) found in
+          (sym (ap (λ x. x.0) found), record { looked = rw (← kind) both.0; standing_there = rw (← kind) both.1 })
       try k rest false s e = rest e
 
   -- What a search from one cell up to another finds.
@@ -76,13 +74,13 @@ module _ (mode : Mode) (c : ℕ → ℕ) (n : ℕ) (kinds : Kinds) where
     pub there : Stood p mark
     pub none : (w : ℕ) → from ≤ w → w < p → is_standing mode c n kinds w ≡ false
 
-  pub first_known : (from to p : ℕ) (mark : Mark) → first_mark mode c n kinds from to ≡ At p mark → First from to p mark
+  pub first_known : (from to p : ℕ) (mark : Mark) → first_mark mode c n kinds from to ≡ Some (p, mark) → First from to p mark
   unfolding first_mark
   first_known from to p mark e = go (find (is_standing mode c n kinds) (to - from) from) refl e
     where
-      go : (x : Place) → find (is_standing mode c n kinds) (to - from) from ≡ x → named mode c n kinds x ≡ At p mark → First from to p mark
-      go nowhere f e = let z : ◌≡◌ {A = ℕ} 0 1 = cc in absurd (omega arith)
-      go (at q) f e =
+      go : (x : Option ℕ) → find (is_standing mode c n kinds) (to - from) from ≡ x → named mode c n kinds x ≡ Some (p, mark) → First from to p mark
+      go None f e = absurd (none-some _ e)
+      go (Some q) f e =
           let hit = find_hits (is_standing mode c n kinds) (to - from) from q f in
           let s = stood q p mark e in
           let found : First from to q mark =

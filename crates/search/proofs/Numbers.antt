@@ -8,8 +8,10 @@ use Prim.Native.Nat.{ℕ, zero, suc, ◌+◌, ◌-◌, ◌*◌, ◌/◌, ◌%◌
 use native.Mathlib.Nat.{add-zero, add_assoc, zero-add, mod-one, eq-or-lt_of_le, le_of_suc-le-suc}
 use native.Mathlib.Omega.{arith}
 use lib.Dec.{T, ltb, ltb→lt}
-use lib.ListN.{length, get_or}
+use lib.ListN.{length, get_or, take, drop}
+use Rattle.std.proofs.Common.{get_or-take, get_or-drop}
 use lib.Pow.{mod-pow-add}
+use Rattle.std.specs.Int.{w64, from_be_bytes}
 use Rattle.cells.specs.Cells.{cell, octet}
 use Rattle.cells.proofs.Joined.{octet_read}
 use Rattle.cells.proofs.Table.{all, all_at}
@@ -23,10 +25,21 @@ octets c p (suc k) = octets c p k * 256 + octet c (p + 8 * k)
 
 -- ---- how the code makes a word of bytes
 
-module _ (s : List ℕ) (at : ℕ) where
-  pub by_fours : {x y : ℕ} → x ≡ word_at s at 4 → y ≡ word_at s (at + 4) 4 → x * 4294967296 + y ≡ word_at s at 8
-  unfolding word_at
-  by_fours e f = rw (e, f) (simp (add-zero, add_assoc at) (omega arith))
+pub eight_joined : (s : List ℕ) (at : ℕ) → at + 8 ≤ length s → from_be_bytes w64 (take 8 (drop at s)) ≡ word_at s at 8
+unfolding word_at
+eight_joined s at h =
+    worth
+    ∙ rw (each 0 (omega arith), each 1 (omega arith), each 2 (omega arith), each 3 (omega arith), each 4 (omega arith), each 5 (omega arith), each 6 (omega arith), each 7 (omega arith))
+    (simp add-zero (omega arith))
+  where
+    each : (i : ℕ) → i < 8 → get_or (take 8 (drop at s)) i 0 ≡ get_or s (at + i) 0
+    each i l = rw (get_or-take, get_or-drop)
+
+    worth : from_be_bytes w64 (take 8 (drop at s))
+        ≡ get_or (take 8 (drop at s)) 0 0 * 256 ^ 7 + get_or (take 8 (drop at s)) 1 0 * 256 ^ 6 + get_or (take 8 (drop at s)) 2 0 * 256 ^ 5
+        + get_or (take 8 (drop at s)) 3 0 * 256 ^ 4 + get_or (take 8 (drop at s)) 4 0 * 256 ^ 3 + get_or (take 8 (drop at s)) 5 0 * 256 ^ 2
+        + get_or (take 8 (drop at s)) 6 0 * 256 ^ 1 + get_or (take 8 (drop at s)) 7 0
+    worth = refl
 
 -- ---- the window over a word
 

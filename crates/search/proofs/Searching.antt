@@ -9,40 +9,32 @@ use mathlib.Core.Logic.{◌⊎◌, inl, inr, ⊎_elim}
 use lib.Dec.{T}
 use Rattle.cells.specs.declared.Mode.{Mode}
 use Rattle.marks.specs.Marks.{string, mark_cells, of_block, stands}
-use Rattle.search.specs.Search.{nowhere, at, find, among, block_marks, choose, is_found, sought, standing, is_standing, named, first_mark}
+use Rattle.search.specs.Search.{find, among, block_marks, choose, sought, standing, is_standing, named, first_mark, Found}
 use Rattle.marks.specs.declared.Mark.{Mark}
 use Rattle.marks.specs.declared.Mark.TheVariants.{Index, Identifier, Data, Control, Open}
 use Rattle.search.specs.declared.Kinds.{Kinds}
-use Rattle.search.specs.declared.Found.{Found}
-use Rattle.search.specs.declared.Found.TheVariants.{At, Nothing}
 use Rattle.marks.proofs.Spelling.{lies_beyond, string_width}
+use Rattle.std.specs.Prelude.{Some, None, is_some}
 
 pub le_or_lt : (a b : ℕ) → (a ≤ b) ⊎ (b < a)
 le_or_lt a b = elim (dec_le a b) [ yes h ↦ inl h | no h ↦ inr (omega arith) ]
 
--- What a search of one part found is found; where that is nothing, the search goes on.
-pub part_found : {r y : Found} (x : Found) (q : ℕ) (mark : Mark) → r ≡ At q mark → y ≡ choose (is_found r) r x → y ≡ r
-part_found x q mark e f = rw e (rw e at f)
-
-pub part_none : {r x y : Found} → r ≡ Nothing → y ≡ choose (is_found r) r x → y ≡ x
-part_none e f = rw e at f
-
 module _ (test : ℕ → Bool) where
   -- no place is left
-  pub find_end : (p to : ℕ) → to ≤ p → find test (to - p) p ≡ nowhere
+  pub find_end : (p to : ℕ) → to ≤ p → find test (to - p) p ≡ None
   unfolding find
   find_end p to h =
       let e : to - p ≡ 0 = omega arith in
       ap (λ (k : ℕ). find test k p) e
 
   -- what the place p itself says
-  find_here : (p to : ℕ) → p < to → find test (to - p) p ≡ elim (test p) [ true ↦ at p | false ↦ find test (to - suc p) (suc p) ]
+  find_here : (p to : ℕ) → p < to → find test (to - p) p ≡ elim (test p) [ true ↦ Some p | false ↦ find test (to - suc p) (suc p) ]
   unfolding find
   find_here p to h =
       let e : to - p ≡ suc (to - suc p) = omega arith in
       ap (λ (k : ℕ). find test k p) e
 
-  pub find_hit : (p to : ℕ) → p < to → test p ≡ true → find test (to - p) p ≡ at p
+  pub find_hit : (p to : ℕ) → p < to → test p ≡ true → find test (to - p) p ≡ Some p
   find_hit p to h t = find_here p to h ∙ rw t
 
   -- places at which the test fails are passed over
@@ -63,7 +55,7 @@ module _ (test : ℕ → Bool) where
           find_here p to h ∙ rw (off, ← e) rest
 
   -- where the test fails from p on, nothing is found
-  pub find_none : (k p : ℕ) → ((q : ℕ) → p ≤ q → test q ≡ false) → find test k p ≡ nowhere
+  pub find_none : (k p : ℕ) → ((q : ℕ) → p ≤ q → test q ≡ false) → find test k p ≡ None
   unfolding find
   find_none zero p none = refl
   find_none (suc k) p none = rw (none p (omega arith), find) (find_none k (suc p) (λ q l. none q (omega arith)))
@@ -78,26 +70,26 @@ searchable Open = true
 
 module _ (mode : Mode) (c : ℕ → ℕ) (n : ℕ) (kinds : Kinds) where
   -- Where no mark of the kinds stands, none is found; and none is where no mark stands that can be looked for.
-  pub standing_off : (p : ℕ) → ((mark : Mark) → T (searchable mark) → sought mode c n kinds p mark ≡ false) → standing mode c n kinds p ≡ Nothing
+  pub standing_off : (p : ℕ) → ((mark : Mark) → T (searchable mark) → sought mode c n kinds p mark ≡ false) → standing mode c n kinds p ≡ None
   unfolding standing
   standing_off p off = rw (off Identifier tt, off Data tt, off Control tt, off Open tt)
 
-  pub standing_none : (p : ℕ) → ((mark : Mark) → T (searchable mark) → stands mode c n mark p ≡ false) → standing mode c n kinds p ≡ Nothing
+  pub standing_none : (p : ℕ) → ((mark : Mark) → T (searchable mark) → stands mode c n mark p ≡ false) → standing mode c n kinds p ≡ None
   unfolding sought
   standing_none p none =
       standing_off p (λ mark t. ap (λ (b : Bool). among kinds mark && b) (none mark t) ∙ and-false (among kinds mark))
 
   -- What `standing` says of a place decides the search's test there.
-  pub not_standing : (p : ℕ) → standing mode c n kinds p ≡ Nothing → is_standing mode c n kinds p ≡ false
+  pub not_standing : (p : ℕ) → standing mode c n kinds p ≡ None → is_standing mode c n kinds p ≡ false
   unfolding is_standing
   not_standing p e = rw e
 
-  pub is_standing_lem : (p q : ℕ) (mark : Mark) → standing mode c n kinds p ≡ At q mark → is_standing mode c n kinds p ≡ true
+  pub is_standing_lem : (p q : ℕ) (mark : Mark) → standing mode c n kinds p ≡ Some (q, mark) → is_standing mode c n kinds p ≡ true
   unfolding is_standing
   is_standing_lem p q mark e = rw e
 
   -- No mark stands that would reach past the end.
-  pub standing_beyond : (p : ℕ) → n < p + mark_cells mode → standing mode c n kinds p ≡ Nothing
+  pub standing_beyond : (p : ℕ) → n < p + mark_cells mode → standing mode c n kinds p ≡ None
   unfolding stands
   standing_beyond p h = standing_none p (λ mark _. lies_beyond c n (string mode mark) p (rw (string_width mode mark) (omega arith)))
 
@@ -119,16 +111,16 @@ module _ (mode : Mode) (c : ℕ → ℕ) (n : ℕ) (kinds : Kinds) where
       ap (named mode c n kinds) (find_skip (is_standing mode c n kinds) (e - p) p to (λ j l. none (p + j) (omega arith) (omega arith))) ∙ rw up
 
   -- Where the search ends: no place is left, the image ends, or a mark stands.
-  pub first_end : (p to : ℕ) → to ≤ p → first_mark mode c n kinds p to ≡ Nothing
+  pub first_end : (p to : ℕ) → to ≤ p → first_mark mode c n kinds p to ≡ None
   unfolding first_mark
   first_end p to h = ap (named mode c n kinds) (find_end (is_standing mode c n kinds) p to h)
 
-  pub first_beyond : (p to : ℕ) → n < p + mark_cells mode → first_mark mode c n kinds p to ≡ Nothing
+  pub first_beyond : (p to : ℕ) → n < p + mark_cells mode → first_mark mode c n kinds p to ≡ None
   unfolding first_mark
   first_beyond p to h =
       ap (named mode c n kinds) (find_none (is_standing mode c n kinds) (to - p) p (λ q l. not_standing q (standing_beyond q (omega arith))))
 
-  pub first_found : (p to q : ℕ) (mark : Mark) {r : Found} → p < to → r ≡ standing mode c n kinds p → r ≡ At q mark → first_mark mode c n kinds p to ≡ r
+  pub first_found : (p to q : ℕ) (mark : Mark) {r : Found} → p < to → r ≡ standing mode c n kinds p → r ≡ Some (q, mark) → first_mark mode c n kinds p to ≡ r
   unfolding first_mark
   first_found p to q mark h e f =
       ap (named mode c n kinds) (find_hit (is_standing mode c n kinds) p to h (is_standing_lem p q mark (sym e ∙ f))) ∙ sym e

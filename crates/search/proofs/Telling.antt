@@ -17,19 +17,18 @@ use Rattle.marks.specs.Marks.{string, mark_byte, mark_bytes, mark_cells, last_by
 use Rattle.marks.specs.declared.Mark.{Mark}
 use Rattle.marks.specs.declared.Mark.TheVariants.{Index, Identifier, Data, Control, Open}
 use Rattle.marks.proofs.Spelling.{Stand, stand_spells, stands_bytes, one_string, string_width, is_false}
-use Rattle.search.specs.Search.{among, choose, sought, standing}
+use Rattle.search.specs.Search.{among, choose, sought, standing, Found}
 use Rattle.search.specs.Aids.{word_at, mark_word, spelled_by, Tells, Begins}
 use Rattle.search.specs.declared.Kinds.{Kinds}
-use Rattle.search.specs.declared.Found.{Found}
-use Rattle.search.specs.declared.Found.TheVariants.{At, Nothing}
 use Rattle.search.proofs.Searching.{searchable, standing_none, standing_beyond, sought_off, sought_stands}
 use Rattle.search.proofs.Clash.{start, string_parts}
 use Rattle.search.proofs.Numbers.{octets, small, window, spelled, number, stand_less}
+use Rattle.std.specs.Prelude.{Option, Some, None}
 
 module _ (c : ℕ → ℕ) (p : ℕ) (mode : Mode) where
   -- What stands at p is the one mark that can, if it is of the kinds and stands.
   pub standing_told : (n : ℕ) (kinds : Kinds) (k : Mark) → ((mark : Mark) → sought mode c n kinds p mark ≡ true → k ≡ mark)
-      → standing mode c n kinds p ≡ choose (sought mode c n kinds p k) (At p k) Nothing
+      → standing mode c n kinds p ≡ choose (sought mode c n kinds p k) (Some (p, k)) None
   unfolding standing
   standing_told n kinds k one = go k other
     where
@@ -39,27 +38,27 @@ module _ (c : ℕ → ℕ) (p : ℕ) (mode : Mode) where
           (λ s. T_not (eqb (mark_byte k) (mark_byte mark)) d (rw (one mark s) (eqb_refl (mark_byte mark))))
 
       go : (k : Mark) → ((mark : Mark) → T (not (eqb (mark_byte k) (mark_byte mark))) → sought mode c n kinds p mark ≡ false)
-          → standing mode c n kinds p ≡ choose (sought mode c n kinds p k) (At p k) Nothing
+          → standing mode c n kinds p ≡ choose (sought mode c n kinds p k) (Some (p, k)) None
       go Index off = rw (off Identifier tt, off Data tt, off Control tt, off Open tt, sought_off mode c n kinds p Index refl)
       go Identifier off = rw (off Data tt, off Control tt, off Open tt)
       go Data off = rw (off Identifier tt, off Control tt, off Open tt)
       go Control off = rw (off Identifier tt, off Data tt, off Open tt)
       go Open off = rw (off Identifier tt, off Data tt, off Control tt)
 
-  -- A mark that is spelled is told; and where none is, the index mark.
-  tells_one : (k : Mark) → Stand c p (string mode k) → Tells mode c p k
+  -- A mark that is spelled is told; and where none is, none.
+  tells_one : (k : Mark) → Stand c p (string mode k) → Tells mode c p (Some k)
   unfolding sought stands lies
   tells_one k s n kinds =
       let wide : p + 8 * length (string mode k) ≡ p + mark_cells mode = rw (string_width mode k) (omega arith) in
       standing_told n kinds k (λ mark f. one_string mode c p k mark s (stands_bytes mode c n mark p (sought_stands mode c n kinds p mark f)))
-      ∙ rw (stand_spells c p (string mode k) s, wide) (nested (among kinds k) (leb (p + mark_cells mode) n) (At p k))
+      ∙ rw (stand_spells c p (string mode k) s, wide) (nested (among kinds k) (leb (p + mark_cells mode) n) (Some (p, k)))
     where
-      nested : (a b : Bool) (x : Found) → choose (a && (b && true)) x Nothing ≡ choose a (choose b x Nothing) Nothing
+      nested : (a b : Bool) (x : Found) → choose (a && (b && true)) x None ≡ choose a (choose b x None) None
       nested true true x = refl
       nested true false x = refl
       nested false b x = refl
 
-  tells_none : ((k : Mark) → T (searchable k) → Stand c p (string mode k) → ⊥) → Tells mode c p Index
+  tells_none : ((k : Mark) → T (searchable k) → Stand c p (string mode k) → ⊥) → Tells mode c p None
   tells_none none n kinds =
       standing_none mode c n kinds p (λ mark t. is_false (stands mode c n mark p) (λ s. none mark t (stands_bytes mode c n mark p s)))
 
@@ -80,23 +79,24 @@ small_string Mfm Open = tt
 
 module _ (c : ℕ → ℕ) (bit : (i : ℕ) → c i < 2) (p : ℕ) (mode : Mode) (word : ℕ) (e : word ≡ octets c p (2 * mark_bytes mode)) where
   -- It is a mark's own where the mark is spelled, and only there.
-  same : (k : Mark) → word ≡ mark_word mode k → Tells mode c p k
+  same : (k : Mark) → word ≡ mark_word mode k → Tells mode c p (Some k)
   same k f = tells_one c p mode k (spelled c p (string mode k) bit (small_string mode k) (rw (string_width mode k) (sym e ∙ f)))
 
   own : (k : Mark) → Stand c p (string mode k) → word ≡ mark_word mode k
   own k s = e ∙ (rw (string_width mode k) at (number c p (string mode k) s))
 
   -- It is compared with one mark's after the other.
-  by_test : (k other : Mark) → ((word ≡ mark_word mode k → ⊥) → Tells mode c p other) → Tells mode c p (cond (eqb word (mark_word mode k)) k other)
+  by_test : (k : Mark) (other : Option Mark) → ((word ≡ mark_word mode k → ⊥) → Tells mode c p other)
+      → Tells mode c p (cond (eqb word (mark_word mode k)) (Some k) other)
   by_test k other rest = go (eqb word (mark_word mode k)) refl
     where
-      go : (b : Bool) → eqb word (mark_word mode k) ≡ b → Tells mode c p (cond b k other)
+      go : (b : Bool) → eqb word (mark_word mode k) ≡ b → Tells mode c p (cond b (Some k) other)
       go true q = same k (eqb-true word (mark_word mode k) q)
       go false q = rest (λ f. let z : true ≡ false = sym (eq-eqb word (mark_word mode k) f) ∙ q in let y : ◌≡◌ {A = ℕ} 0 1 = cc in omega arith)
 
   told_by : Tells mode c p (spelled_by mode word)
   unfolding spelled_by
-  told_by = by_test Identifier _ (λ i. by_test Data _ (λ d. by_test Control _ (λ r. by_test Open Index (λ o. tells_none c p mode (other i d r o)))))
+  told_by = by_test Identifier _ (λ i. by_test Data _ (λ d. by_test Control _ (λ r. by_test Open None (λ o. tells_none c p mode (other i d r o)))))
     where
       other : (word ≡ mark_word mode Identifier → ⊥) → (word ≡ mark_word mode Data → ⊥) → (word ≡ mark_word mode Control → ⊥)
           → (word ≡ mark_word mode Open → ⊥) → (k : Mark) → T (searchable k) → Stand c p (string mode k) → ⊥
@@ -107,23 +107,23 @@ module _ (c : ℕ → ℕ) (bit : (i : ℕ) → c i < 2) (p : ℕ) (mode : Mode)
       other i d r o Open t s = o (own Open s)
 
 -- How the code tells the mark that a word spells: each arm knows the mode, and a number that the word is, or that it is none of them.
-pub spelled_one : {mode : Mode} {word : ℕ} {k : Mark} (m : Mode) (n : ℕ) → mode ≡ m → word ≡ n → spelled_by m n ≡ k → k ≡ spelled_by mode word
+pub spelled_one : {mode : Mode} {word : ℕ} {k : Option Mark} (m : Mode) (n : ℕ) → mode ≡ m → word ≡ n → spelled_by m n ≡ k → k ≡ spelled_by mode word
 spelled_one m n e f g = rw (e, f) (sym g)
 
 pub spelled_none : {mode : Mode} {word : ℕ} (m : Mode) → mode ≡ m → (word ≡ mark_word m Identifier → ⊥) → (word ≡ mark_word m Data → ⊥)
-    → (word ≡ mark_word m Control → ⊥) → (word ≡ mark_word m Open → ⊥) → Index ≡ spelled_by mode word
+    → (word ≡ mark_word m Control → ⊥) → (word ≡ mark_word m Open → ⊥) → None ≡ spelled_by mode word
 unfolding spelled_by
 spelled_none {mode} {word} m e i d r o =
     rw (e, ne_eqb word (mark_word m Identifier) i, ne_eqb word (mark_word m Data) d, ne_eqb word (mark_word m Control) r, ne_eqb word (mark_word m Open) o)
 
 -- What the word of the octets tells, in the mode that an arm knows.
-pub word_told : {mode : Mode} {r : Mark} (m : Mode) (s : List ℕ) (p word : ℕ) → mode ≡ m → word ≡ octets (cell s) p (2 * mark_bytes m)
+pub word_told : {mode : Mode} {r : Option Mark} (m : Mode) (s : List ℕ) (p word : ℕ) → mode ≡ m → word ≡ octets (cell s) p (2 * mark_bytes m)
     → r ≡ spelled_by m word → Tells mode (cell s) p r
 word_told m s p word same e f = rw (same, f) (told_by (cell s) (cell_lt s) p m word e)
 
 -- In MFM, the word of the seven octets with which all these marks begin: where it is not theirs, none is told.
 module _ (s : List ℕ) (p x : ℕ) (e : x ≡ octets (cell s) p 7) where
-  pub start_off : {mode : Mode} → mode ≡ Mfm → (x ≡ word_at (start Mfm) 0 7 → ⊥) → Tells mode (cell s) p Index
+  pub start_off : {mode : Mode} → mode ≡ Mfm → (x ≡ word_at (start Mfm) 0 7 → ⊥) → Tells mode (cell s) p None
   start_off same off =
       rw same
       (tells_none (cell s) p Mfm
@@ -154,7 +154,7 @@ module _ (s : List ℕ) (bytes : (j : ℕ) → get_or s j 0 < 256) (at : ℕ) wh
       let q : 8 * at + 8 * k ≡ 8 * (at + k) = omega arith in
       rw (q, aligned s (at + k) (bytes (at + k)) (bytes (at + k + 1)), whole k)
 
-  pub whole_fm : {w : ℕ} → w ≡ 0 * 16777216 + 0 * 65536 + get_or s at 0 * 256 + get_or s (at + 1) 0 → w ≡ octets (cell s) (8 * at) 2
+  pub whole_fm : {w : ℕ} → w ≡ get_or s at 0 * 256 + get_or s (at + 1) 0 → w ≡ octets (cell s) (8 * at) 2
   unfolding word_at
   whole_fm e =
       let both = rw add-zero at (whole 2) in
@@ -168,22 +168,23 @@ pub room_by : {mode : Mode} (m : Mode) (next bytes : ℕ) → mode ≡ m → nex
 room_by m next bytes e h = rw e at h
 
 -- What stands where a mark is told: it, if it is of the kinds and lies within the n cells.
-module _ (mode : Mode) (c : ℕ → ℕ) (p : ℕ) (k : Mark) (n : ℕ) (kinds : Kinds) (told : Tells mode c p k) where
-  pub told_within : among kinds k ≡ true → p + mark_cells mode ≤ n → standing mode c n kinds p ≡ At p k
+module _ (mode : Mode) (c : ℕ → ℕ) (p : ℕ) (k : Mark) (n : ℕ) (kinds : Kinds) (told : Tells mode c p (Some k)) where
+  pub told_within : among kinds k ≡ true → p + mark_cells mode ≤ n → standing mode c n kinds p ≡ Some (p, k)
   told_within a h = told n kinds ∙ rw (a, le-leb (p + mark_cells mode) n h)
 
-  pub told_beyond : among kinds k ≡ true → n < p + mark_cells mode → standing mode c n kinds p ≡ Nothing
+  pub told_beyond : among kinds k ≡ true → n < p + mark_cells mode → standing mode c n kinds p ≡ None
   told_beyond a h = told n kinds ∙ rw (a, lt-leb (p + mark_cells mode) n h)
 
-  pub told_other : among kinds k ≡ false → standing mode c n kinds p ≡ Nothing
+  pub told_other : among kinds k ≡ false → standing mode c n kinds p ≡ None
   told_other a = told n kinds ∙ rw a
 
 -- What a byte of the image s begins, in the mode that an arm of the code knows: the mark that is told, where it has room.
 module _ {mode : Mode} (m : Mode) (same : mode ≡ m) (s : List ℕ) (at : ℕ) where
-  pub begun_beyond : length s < at + 2 * mark_bytes m → Begins mode s at Index
+  pub begun_beyond : length s < at + 2 * mark_bytes m → Begins mode s at None
   begun_beyond h kinds = rw same (standing_beyond m (cell s) (8 * length s) kinds (8 * at) (omega arith))
 
-  pub begun_within : (k : Mark) → at + 2 * mark_bytes m ≤ length s → Tells mode (cell s) (8 * at) k → Begins mode s at k
-  begun_within k h told kinds =
+  pub begun_within : (k : Option Mark) → at + 2 * mark_bytes m ≤ length s → Tells mode (cell s) (8 * at) k → Begins mode s at k
+  begun_within None h told = told (8 * length s)
+  begun_within (Some k) h told =
       let room : 8 * at + mark_cells mode ≤ 8 * length s = rw same (omega arith) in
-      told (8 * length s) kinds ∙ rw (le-leb (8 * at + mark_cells mode) (8 * length s) room)
+      λ kinds. told (8 * length s) kinds ∙ rw (le-leb (8 * at + mark_cells mode) (8 * length s) room)

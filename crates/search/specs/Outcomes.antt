@@ -2,9 +2,8 @@
 use Rattle.std.specs.Prelude.{List, ◌≡◌, ℕ, ◌*◌, length}
 use Rattle.cells.specs.Cells.{cell}
 use Rattle.cells.specs.declared.Mode.{Mode}
-use Rattle.search.specs.Search.{standing, first_mark}
+use Rattle.search.specs.Search.{standing, first_mark, Found}
 use Rattle.search.specs.declared.Kinds.{Kinds}
-use Rattle.search.specs.declared.Found.{Found}
 
 -- `mark_at` answers which mark of the kinds a byte of the image begins, with its place, or that none does.
 abbrev pub IsMarkAt : Mode → Kinds → List ℕ → (byte : ℕ) → Found → Type 0

@@ -1,23 +1,20 @@
 -- The search for the first mark of given kinds. There is one notion of searching, `find`: the first of a number of places at which a
 -- test holds. The index mark is never looked for.
-use Rattle.std.specs.Prelude.{Bool, true, false, ◌&&◌, ℕ, zero, suc, ◌-◌}
+use Rattle.std.specs.Prelude.{Bool, true, false, ◌&&◌, ℕ, zero, suc, ◌-◌, Some, None, Option, is_some}
 use Rattle.cells.specs.declared.Mode.{Mode}
 use Rattle.marks.specs.Marks.{stands}
 use Rattle.marks.specs.declared.Mark.{Mark}
 use Rattle.marks.specs.declared.Mark.TheVariants.{Index, Identifier, Data, Control, Open}
 use Rattle.search.specs.declared.Kinds.{Kinds}
-use Rattle.search.specs.declared.Found.{Found}
-use Rattle.search.specs.declared.Found.TheVariants.{At, Nothing}
 
--- Where a search ends.
-pub data Place : Type 0 where
-  nowhere : Place
-  at : ℕ → Place
+-- What a search finds: the first mark of the kinds that are looked for, with the cell at which it begins.
+abbrev pub Found : Type 0
+Found = Option (ℕ × Mark)
 
 -- The first of the k places from p on at which the test holds.
-unfoldable pub find : (ℕ → Bool) → ℕ → ℕ → Place
-find test zero p = nowhere
-find test (suc k) p = elim (test p) [ true ↦ at p | false ↦ find test k (suc p) ]
+unfoldable pub find : (ℕ → Bool) → ℕ → ℕ → Option ℕ
+find test zero p = None
+find test (suc k) p = elim (test p) [ true ↦ Some p | false ↦ find test k (suc p) ]
 
 -- The mark is of the kinds looked for: identifier marks, or the marks of a block, which are data, control and open
 -- (01, "How a track is read", steps 1 and 3, and refusal 13).
@@ -44,11 +41,6 @@ abbrev pub choose : Bool → Found → Found → Found
 choose true answer other = answer
 choose false answer other = other
 
--- A search has found a mark.
-abbrev pub is_found : Found → Bool
-is_found (At p mark) = true
-is_found Nothing = false
-
 module _ (mode : Mode) (c : ℕ → ℕ) (n : ℕ) (kinds : Kinds) where
   -- A mark of the kinds stands at p.
   unfoldable pub sought : ℕ → Mark → Bool
@@ -57,19 +49,19 @@ module _ (mode : Mode) (c : ℕ → ℕ) (n : ℕ) (kinds : Kinds) where
   -- Which mark of the kinds stands at p, if one does; no two can (the law `one_mark`).
   unfoldable pub standing : ℕ → Found
   standing p =
-      choose (sought p Identifier) (At p Identifier)
-      (choose (sought p Data) (At p Data)
-      (choose (sought p Control) (At p Control)
-      (choose (sought p Open) (At p Open) Nothing)))
+      choose (sought p Identifier) (Some (p, Identifier))
+      (choose (sought p Data) (Some (p, Data))
+      (choose (sought p Control) (Some (p, Control))
+      (choose (sought p Open) (Some (p, Open)) None)))
 
   -- Some mark of the kinds stands at p.
   unfoldable pub is_standing : ℕ → Bool
-  is_standing p = is_found (standing p)
+  is_standing p = is_some (standing p)
 
   -- What stands where a search ended.
-  abbrev pub named : Place → Found
-  named nowhere = Nothing
-  named (at p) = standing p
+  abbrev pub named : Option ℕ → Found
+  named None = None
+  named (Some p) = standing p
 
   -- The first mark of the kinds that begins at a cell from `from` up to and without `to`, and its place.
   unfoldable pub first_mark : ℕ → ℕ → Found

@@ -11,7 +11,7 @@ mod places;
 mod tables;
 
 // The kinds of mark that a search looks for: identifier marks, and the marks of a block, which are data, control and open.
-#[derive(Clone, Copy)]
+#[derive(Clone, Copy, Debug, PartialEq, Eq)]
 pub struct Kinds {
     pub identifier: bool,
     pub block: bool,
@@ -33,40 +33,25 @@ pub const BLOCK_MARKS: Kinds = Kinds {
     block: true,
 };
 
-// What a search finds: the first such mark, with the cell at which it begins.
-#[derive(Clone, Copy)]
-pub enum Found {
-    At(usize, Mark),
-    Nothing,
-}
-
-// The mark of the kinds that the byte `at` begins, if one does. This lays out no table, as a search does.
-pub fn mark_at(mode: Mode, kinds: Kinds, image: &[u8], at: usize) -> Found
+// The mark of the kinds that the byte `at` begins, if one does, with its cell. This lays out no table, as a search does.
+pub fn mark_at(mode: Mode, kinds: Kinds, image: &[u8], at: usize) -> Option<(usize, Mark)>
     requires { Housed image.now }
     ensures { IsMarkAt mode kinds image.now at result }
 {
     if image.len() < at {
-        return Found::Nothing;
+        return None;
     }
-    let mark = places::begun(mode, image, at);
-    if places::is_among(kinds, mark) {
-        return Found::At(8 * at, mark);
+    let mark = places::begun(mode, image, at)?;
+    if !places::is_among(kinds, mark) {
+        return None;
     }
-    Found::Nothing
+    Some((8 * at, mark))
 }
 
-// The first mark of the kinds that begins at a cell from `from` up to and without `to`.
-pub fn find(mode: Mode, kinds: Kinds, image: &[u8], from: usize, to: usize) -> Found
+// The first mark of the kinds that begins at a cell from `from` up to and without `to`, with that cell.
+pub fn find(mode: Mode, kinds: Kinds, image: &[u8], from: usize, to: usize) -> Option<(usize, Mark)>
     requires { Housed image.now }
     ensures { IsFirstMark mode kinds image.now from to result }
 {
-    match mode {
-        Mode::Fm => {
-            if kinds.block {
-                return tables::first_fm(kinds, image, from, to);
-            }
-            tables::first_identifier_fm(kinds, image, from, to)
-        }
-        Mode::Mfm => tables::first_mfm(kinds, image, from, to),
-    }
+    tables::search(tables::table_for(mode, kinds), mode, kinds, image, from, to)
 }

@@ -3,12 +3,13 @@ ghost use Rattle.std.specs.Prelude.{◌≡◌, false, ℕ, ◌+◌, ◌-◌, ◌
 ghost use Rattle.cells.specs.declared.Mode.TheVariants.{Fm, Mfm};
 ghost use Rattle.marks.specs.Marks.{mark_bytes};
 ghost use Rattle.marks.specs.Outcomes.{Housed};
-ghost use Rattle.search.specs.Aids.{Rules, Near, Seeks, Tries, within};
+ghost use Rattle.search.specs.Aids.{Rules, Near, Seeks, Tries};
 ghost use Rattle.search.specs.Outcomes.{IsFirstMark};
 
+use super::Kinds;
 use super::places::standing;
-use super::{Found, Kinds};
 use cells::Mode;
+use marks::Mark;
 
 // For each image byte, how many cells before it a mark may begin that has this byte inside, 1 to 8: the lower four bits have the farther of
 // two places, the upper four the nearer, and 0 is none. Every mark but the index mark is counted, which is not looked for.
@@ -65,16 +66,6 @@ const IDENTIFIERS_FM: [u8; 256] =
     \x00\x00\x00\x00\x00\x00\x00\x00\x00\x00\x01\x00\x00\x00\x00\x00\
     \x00\x00\x00\x00\x00\x00\x00\x00\x00\x00\x00\x00\x00\x00\x00\x00";
 
-// Whether what was found begins at a cell from `from` up to and without `to`.
-fn is_within(found: Found, from: usize, to: usize) -> bool
-    ensures { result ≡ within found from to }
-{
-    match found {
-        Found::At(place, _) => (from <= place) & (place < to),
-        Found::Nothing => false,
-    }
-}
-
 // The first mark of the kinds that begins within eight cells before the byte `next`, at a cell from `from` up to and without `to`; where there
 // is none, the search goes on. Only the places that `begins` has are looked at.
 fn tried(
@@ -85,21 +76,20 @@ fn tried(
     next: usize,
     from: usize,
     to: usize,
-) -> Found
-    requires { Near mode image.now next × (0 < begins) × Rules mode kinds (get_or image.now next 0) begins }
+) -> Option<(usize, Mark)>
+    requires { Near mode image.now next × Rules mode kinds (get_or image.now next 0) begins }
     ensures { Tries mode kinds image.now next from to result }
 {
     let mut left = begins;
-    loop {
-        let found = standing(mode, kinds, image, next, left % 16);
-        if is_within(found, from, to) {
-            return found;
+    while left != 0 {
+        if let Some((place, mark)) = standing(mode, kinds, image, next, left % 16) {
+            if (from..to).contains(&place) {
+                return Some((place, mark));
+            }
         }
-        left = left / 16;
-        if left == 0 {
-            return Found::Nothing;
-        }
+        left /= 16;
     }
+    None
 }
 
 // What the table says of an image byte.
@@ -110,49 +100,31 @@ fn entry(begins: &[u8; 256], image: &[u8], at: usize) -> u8
     begins[image[at] as usize]
 }
 
-// A byte before which a mark may begin, and what the table says of it.
-#[derive(Clone, Copy)]
-struct Spot {
-    next: usize,
-    begins: u8,
-}
-
-// The first byte from `from` on, and before `end`, that the table has; two bytes are looked at in each turn. The byte's entry goes with it, so
-// that whoever looks there reads the image anew, eight bytes at once.
-fn seek(begins: &[u8; 256], image: &[u8], from: usize, end: usize) -> Spot
+// The first byte from `from` on, and before `end`, that the table has, and its entry; two bytes are looked at in each turn.
+fn seek(begins: &[u8; 256], image: &[u8], from: usize, end: usize) -> Option<(usize, u8)>
     requires { (end ≤ length image.now) × (from ≤ 2305843009213693952) }
-    ensures { Seeks begins.now image.now from end result.next result.begins }
+    ensures { Seeks begins.now image.now from end result }
 {
     let mut next = from;
     while next + 1 < end {
         let first = entry(begins, image, next);
         if first != 0 {
-            return Spot {
-                next,
-                begins: first,
-            };
+            return Some((next, first));
         }
         let after = next + 1;
         let second = entry(begins, image, after);
         if second != 0 {
-            return Spot {
-                next: after,
-                begins: second,
-            };
+            return Some((after, second));
         }
         next += 2;
     }
     if next < end {
         let last = entry(begins, image, next);
         if last != 0 {
-            return Spot { next, begins: last };
+            return Some((next, last));
         }
-        return Spot {
-            next: end,
-            begins: 0,
-        };
     }
-    Spot { next, begins: 0 }
+    None
 }
 
 // The byte before which a search up to `to` need not look any more: the places there lie at `to` or behind it, or no mark has room.
@@ -172,51 +144,40 @@ fn end_of(mode: Mode, image: &[u8], to: usize) -> usize
 }
 
 // The search itself, over a table. One look at the byte behind a cell's own rules out eight places at once.
-fn search(
+pub(crate) fn search(
     begins: &[u8; 256],
     mode: Mode,
     kinds: Kinds,
     image: &[u8],
     from: usize,
     to: usize,
-) -> Found
+) -> Option<(usize, Mark)>
     requires { Housed image.now × ((byte : ℕ) → byte < 256 → Rules mode kinds byte (get_or begins.now byte 0)) }
     ensures { IsFirstMark mode kinds image.now from to result }
 {
     let end = end_of(mode, image, to);
     let mut next = from / 8 + 1;
-    loop {
-        let spot = seek(begins, image, next, end);
-        let at = spot.next;
-        if end <= at {
-            return Found::Nothing;
-        }
-        let found = tried(spot.begins, mode, kinds, image, at, from, to);
-        if let Found::At(_, _) = found {
-            return found;
+    while let Some((at, before)) = seek(begins, image, next, end) {
+        if let Some(found) = tried(before, mode, kinds, image, at, from, to) {
+            return Some(found);
         }
         next = at + 1;
     }
+    None
 }
 
-// The search over each table. A function of its own lends it, so that no other table is laid out.
-pub(crate) fn first_fm(kinds: Kinds, image: &[u8], from: usize, to: usize) -> Found
-    requires { Housed image.now }
-    ensures { IsFirstMark Fm kinds image.now from to result }
+// The table for a search: that of all marks, and where no mark of a block is looked for in FM, that of the identifier mark.
+pub(crate) fn table_for(mode: Mode, kinds: Kinds) -> &'static [u8; 256]
+    ensures { (byte : ℕ) → byte < 256 → Rules mode kinds byte (get_or result.now byte 0) }
 {
-    search(&BEGINS_FM, Mode::Fm, kinds, image, from, to)
-}
-
-pub(crate) fn first_identifier_fm(kinds: Kinds, image: &[u8], from: usize, to: usize) -> Found
-    requires { Housed image.now × (kinds.block ≡ false) }
-    ensures { IsFirstMark Fm kinds image.now from to result }
-{
-    search(&IDENTIFIERS_FM, Mode::Fm, kinds, image, from, to)
-}
-
-pub(crate) fn first_mfm(kinds: Kinds, image: &[u8], from: usize, to: usize) -> Found
-    requires { Housed image.now }
-    ensures { IsFirstMark Mfm kinds image.now from to result }
-{
-    search(&BEGINS_MFM, Mode::Mfm, kinds, image, from, to)
+    match mode {
+        Mode::Fm => {
+            if kinds.block {
+                &BEGINS_FM
+            } else {
+                &IDENTIFIERS_FM
+            }
+        }
+        Mode::Mfm => &BEGINS_MFM,
+    }
 }

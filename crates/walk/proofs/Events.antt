@@ -2,10 +2,11 @@
 use mathlib.Core.Path.{◌≡◌, refl, ap, ◌∙◌}
 use mathlib.Core.Bool.{Bool, true, false, cond}
 use mathlib.Core.List.{List, [], ◌∷◌, ◌++◌, append-nil}
-use Prim.Native.Nat.{ℕ, ◌+◌}
+use Prim.Native.Nat.{ℕ, ◌+◌, ◌≤◌}
 use native.Mathlib.Omega.{arith}
 use borrow.Author.Tests.{eq-eqb, ne_eqb}
 use lib.Dec.{eqb}
+use lib.ListN.{length}
 use Rattle.walk.specs.Events.{bads, foreigns, blocks}
 use Rattle.walk.specs.declared.Block.{Block}
 use Rattle.walk.specs.declared.Event.{Event}
@@ -26,6 +27,14 @@ foreigns_append [] ys = omega arith
 foreigns_append (Bad ∷ xs) ys = foreigns_append xs ys
 foreigns_append (Foreign ∷ xs) ys = omega (arith, foreigns_append xs ys)
 foreigns_append (Accepted s b ∷ xs) ys = foreigns_append xs ys
+
+-- No event is counted twice.
+pub counts_few : (xs : List Event) → bads xs + foreigns xs ≤ length xs
+unfolding bads foreigns
+counts_few [] = omega arith
+counts_few (Bad ∷ xs) = omega (arith, counts_few xs)
+counts_few (Foreign ∷ xs) = omega (arith, counts_few xs)
+counts_few (Accepted s b ∷ xs) = omega (arith, counts_few xs)
 
 -- ---- the blocks of a sector
 

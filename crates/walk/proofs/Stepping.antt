@@ -16,52 +16,49 @@ use Rattle.search.proofs.Searching.{block_among}
 use Rattle.search.proofs.Firsts.{first_known}
 use Rattle.marks.proofs.Spelling.{stands_room, string_width}
 use Rattle.marks.specs.Marks.{covered, mark_cells, of_block}
-use Rattle.search.specs.Search.{either_marks, first_mark}
+use Rattle.search.specs.Search.{either_marks, first_mark, Found}
 use Rattle.search.specs.declared.Kinds.{Kinds}
 use Rattle.marks.specs.declared.Mark.{Mark}
 use Rattle.marks.specs.declared.Mark.TheVariants.{Identifier}
-use Rattle.search.specs.declared.Found.{Found}
-use Rattle.search.specs.declared.Found.TheVariants.{At, Nothing}
-use Rattle.walk.specs.Walk.{reach, edc_right, ours, claimed, first, reached, accepted, owned, judged, roomy, marked, round}
+use Rattle.walk.specs.Walk.{reach, edc_right, ours, claimed, first, reached, accepted, owned, judged, roomy, marked, round, Round}
 use Rattle.layouts.specs.Layouts.{block_cells}
 use Rattle.walk.specs.Turns.{is_ours}
 use Rattle.walk.specs.declared.Block.TheVariants.{Missing, Beyond, Within}
 use Rattle.walk.specs.declared.Event.TheVariants.{Bad, Foreign, Accepted}
-use Rattle.walk.specs.declared.Round.{Round}
-use Rattle.walk.specs.declared.Round.TheVariants.{Ends, Meets}
 use Rattle.walk.proofs.Ways.{identifier}
+use Rattle.std.specs.Prelude.{Some, None}
 
 -- What a search found lies before its end.
-pub found_high : (mode : Mode) (c : ℕ → ℕ) (n : ℕ) (kinds : Kinds) (from to p : ℕ) (k : Mark) (f : Found) → f ≡ first_mark mode c n kinds from to → f ≡ At p k → p < to
+pub found_high : (mode : Mode) (c : ℕ → ℕ) (n : ℕ) (kinds : Kinds) (from to p : ℕ) (k : Mark) (f : Found) → f ≡ first_mark mode c n kinds from to → f ≡ Some (p, k) → p < to
 found_high mode c n kinds from to p k f e g = (first_known mode c n kinds from to p k (sym e ∙ g)).high
 
 -- And its mark lies within the image.
 pub found_room : (mode : Mode) (c : ℕ → ℕ) (n : ℕ) (kinds : Kinds) (from to p w : ℕ) (k : Mark) (f : Found) → f ≡ first_mark mode c n kinds from to
-    → f ≡ At p k → w ≡ mark_cells mode → p + w ≤ n
+    → f ≡ Some (p, k) → w ≡ mark_cells mode → p + w ≤ n
 found_room mode c n kinds from to p w k f e g u =
     let h = stands_room mode c n k p (first_known mode c n kinds from to p k (sym e ∙ g)).there.standing_there in
     omega (arith, string_width mode k)
 
 -- Steps 3 and 4: f is what the search found.
 module _ (l : Layout) (n s a : ℕ) (f : Found) where
-  pub reached_none : f ≡ Nothing → Meets (Accepted s Missing) a ≡ reached l n s a f
+  pub reached_none : f ≡ None → Some (Accepted s Missing, a) ≡ reached l n s a f
   unfolding reached
   reached_none e = rw e
 
-  pub reached_other : (m : ℕ) (k : Mark) (b : Bool) → f ≡ At m k → b ≡ of_block k → b ≡ false → Meets (Accepted s Missing) a ≡ reached l n s a f
+  pub reached_other : (m : ℕ) (k : Mark) (b : Bool) → f ≡ Some (m, k) → b ≡ of_block k → b ≡ false → Some (Accepted s Missing, a) ≡ reached l n s a f
   unfolding reached first
   reached_other m k b e g h = rw (e, ← (g ∙ block_among k), h)
 
   -- w is the cells of the mark, and `room` the data bytes that the image has behind it.
-  module _ (m w room : ℕ) (k : Mark) (b : Bool) (at : f ≡ At m k) (told : b ≡ of_block k) (of : b ≡ true) (wide : w ≡ mark_cells l.mode)
+  module _ (m w room : ℕ) (k : Mark) (b : Bool) (at : f ≡ Some (m, k)) (told : b ≡ of_block k) (of : b ≡ true) (wide : w ≡ mark_cells l.mode)
       (there : m + w ≤ n) (left : room ≡ (n - (m + w)) / 16) where
-    pub reached_within : 2 ≤ room → l.size ≤ room - 2 → Meets (Accepted s (Within m)) (m + w + 16 * (l.size + 2)) ≡ reached l n s a f
+    pub reached_within : 2 ≤ room → l.size ≤ room - 2 → Some (Accepted s (Within m), m + w + 16 * (l.size + 2)) ≡ reached l n s a f
     unfolding reached first claimed
     reached_within two long =
         let e : m + w + 16 * (l.size + 2) ≡ m + block_cells l = omega (arith, wide) in
         rw (at, ← (told ∙ block_among k), of, e, le-leb (m + block_cells l) n (omega (arith, wide)))
 
-    pub reached_beyond : (2 ≤ room → room - 2 < l.size) → Meets (Accepted s (Beyond m)) n ≡ reached l n s a f
+    pub reached_beyond : (2 ≤ room → room - 2 < l.size) → Some (Accepted s (Beyond m), n) ≡ reached l n s a f
     unfolding reached first claimed
     reached_beyond short = rw (at, ← (told ∙ block_among k), of, lt-leb (m + block_cells l) n (elim (dec_le 2 room) [ yes h ↦ more h | no h ↦ fewer h ]))
       where
@@ -73,12 +70,12 @@ module _ (l : Layout) (n s a : ℕ) (f : Found) where
 
 -- Steps 1 and 2: f is what the search found from p on, and w the cells of a mark.
 module _ (t : Track) (c : ℕ → ℕ) (n p : ℕ) (f : Found) (found : f ≡ identifier t c n p) where
-  pub round_none : f ≡ Nothing → Ends ≡ round t c n p
+  pub round_none : f ≡ None → None ≡ round t c n p
   unfolding round marked
   round_none e = let g = sym found ∙ e in rw g
 
-  module _ (i w : ℕ) (k : Mark) (at : f ≡ At i k) (u : w ≡ mark_cells t.layout.mode) where
-    pub round_short : n < i + w + 96 → Ends ≡ round t c n p
+  module _ (i w : ℕ) (k : Mark) (at : f ≡ Some (i, k)) (u : w ≡ mark_cells t.layout.mode) where
+    pub round_short : n < i + w + 96 → None ≡ round t c n p
     unfolding round marked roomy
     round_short r =
         let g = sym found ∙ at in
@@ -94,7 +91,7 @@ module _ (t : Track) (c : ℕ → ℕ) (n p : ℕ) (f : Found) (found : f ≡ id
           let z = rw (entered, u) at e in
           rw (g, le-leb (i + mark_cells t.layout.mode + 96) n v, u, z)
 
-      pub round_bad : (x ≡ 0 → ⊥) → Meets Bad (i + w) ≡ round t c n p
+      pub round_bad : (x ≡ 0 → ⊥) → Some (Bad, i + w) ≡ round t c n p
       unfolding judged
       round_bad h = judge false (ne_eqb x 0 h)
 
@@ -104,7 +101,7 @@ module _ (t : Track) (c : ℕ → ℕ) (n p : ℕ) (f : Found) (found : f ≡ id
         unfolding judged ours
         own = rw (told, e1, e2, e3, e4) (judge true (eq-eqb x 0 right))
 
-        pub round_foreign : b ≡ false → Meets Foreign (i + w + 96) ≡ round t c n p
+        pub round_foreign : b ≡ false → Some (Foreign, i + w + 96) ≡ round t c n p
         unfolding owned
         round_foreign h = rw h at own
 

@@ -2,27 +2,27 @@
 -- the walk or goes on behind what it met.
 use mathlib.Core.Path.{◌≡◌, refl, sym, ap, subst, ◌∙◌}
 use mathlib.Core.Bool.{Bool, true, false, cond}
-use mathlib.Core.List.{List, [], ◌∷◌}
+use mathlib.Core.List.{List, [], ◌∷◌, ◌++◌}
 use Prim.Native.Nat.{ℕ, zero, suc, ◌-◌, ◌+◌, ◌≤◌, ◌<◌}
 use native.Mathlib.Omega.{arith}
 use lib.Dec.{eqb}
+use lib.ListN.{length, length-append}
 use Rattle.layouts.specs.declared.Track.{Track}
 use Rattle.search.specs.Search.{identifier_marks}
 use Rattle.search.proofs.Searching.{first_end}
 use Rattle.walk.specs.Events.{blocks}
-use Rattle.walk.specs.Walk.{marked, round, follow, walk, events}
+use Rattle.walk.specs.Walk.{marked, round, follow, walk, events, Round}
 use Rattle.walk.specs.declared.Block.{Block}
 use Rattle.walk.specs.declared.Block.TheVariants.{Missing, Beyond, Within}
 use Rattle.walk.specs.declared.Event.{Event}
 use Rattle.walk.specs.declared.Event.TheVariants.{Bad, Foreign, Accepted}
-use Rattle.walk.specs.declared.Round.{Round}
-use Rattle.walk.specs.declared.Round.TheVariants.{Ends, Meets}
 use Rattle.walk.specs.Turns.{Placed}
 use Rattle.walk.proofs.Ways.{view, Whole, Sound, Onward, onward}
+use Rattle.std.specs.Prelude.{Some, None}
 
 module _ (t : Track) (c : ℕ → ℕ) (n : ℕ) where
   -- From the image's end on no mark is found.
-  round_past : (p : ℕ) → n ≤ p → round t c n p ≡ Ends
+  round_past : (p : ℕ) → n ≤ p → round t c n p ≡ None
   unfolding round marked
   round_past p h = ap (marked t c n) (first_end t.layout.mode c n identifier_marks p n h)
 
@@ -41,11 +41,11 @@ module _ (t : Track) (c : ℕ → ℕ) (n : ℕ) where
       go : ((q : ℕ) → p < q → walk t c n j q ≡ walk t c n k q)
           → (o : Round) → Onward t c n p o
           → follow t c n (walk t c n j) o ≡ follow t c n (walk t c n k) o
-      go ih Ends h = refl
-      go ih (Meets e q) h = ap (λ x. e ∷ x) (ih q h.0)
+      go ih None h = refl
+      go ih (Some (e, q)) h = ap (λ x. e ∷ x) (ih q h.0)
 
   -- What is known of a round that meets something.
-  pub met_onward : (p q : ℕ) (e : Event) → round t c n p ≡ Meets e q → Onward t c n p (Meets e q)
+  pub met_onward : (p q : ℕ) (e : Event) → round t c n p ≡ Some (e, q) → Onward t c n p (Some (e, q))
   met_onward p q e f = subst (λ (o : Round). Onward t c n p o) f (onward t c n p _ (view t c n p))
 
   -- The walk from p on, by what the round says; p is within the image.
@@ -55,18 +55,16 @@ module _ (t : Track) (c : ℕ → ℕ) (n : ℕ) where
       let e : n - p ≡ suc (n - p - 1) = omega arith in
       ap (λ (k : ℕ). walk t c n k p) e
 
-  pub walk_ends : (p : ℕ) (r : Round) → p < n → r ≡ round t c n p → r ≡ Ends
-      → walk t c n (n - p) p ≡ walk t c n (n - n) n
-  unfolding follow
-  walk_ends p r h told e =
-      walk_one p h ∙ ap (follow t c n (walk t c n (n - p - 1))) (sym told ∙ e) ∙ sym (walk_past (n - n) n (omega arith))
+  pub walk_ends : (k p : ℕ) (r : Round) → r ≡ round t c n p → r ≡ None → walk t c n k p ≡ []
+  unfolding walk follow
+  walk_ends zero p r told e = refl
+  walk_ends (suc k) p r told e = ap (follow t c n (walk t c n k)) (sym told ∙ e)
 
-  pub walk_meets : (p q : ℕ) (e : Event) → p < n → round t c n p ≡ Meets e q
-      → walk t c n (n - p) p ≡ e ∷ walk t c n (n - q) q
+  walk_meets : (p q : ℕ) (e : Event) → round t c n p ≡ Some (e, q) → walk t c n (n - p) p ≡ e ∷ walk t c n (n - q) q
   unfolding follow
-  walk_meets p q e h f =
+  walk_meets p q e f =
       let o = met_onward p q e f in
-      walk_one p h
+      walk_one p (omega (arith, o.0, o.1))
       ∙ ap (follow t c n (walk t c n (n - p - 1))) f
       ∙ ap (λ x. e ∷ x) (fuel (n - q) (n - p - 1) q (omega arith) (omega (arith, o.0)))
 
@@ -75,12 +73,12 @@ module _ (t : Track) (c : ℕ → ℕ) (n : ℕ) where
   walk_all = let e : n - 0 ≡ n = omega arith in rw e
 
 -- A round of the code, which met the event e and goes on at q.
-module _ (t : Track) (c : ℕ → ℕ) (n p q : ℕ) (r : Round) (x e : Event) (told : r ≡ round t c n p) (meets : r ≡ Meets x q) (is : x ≡ e) where
-  turn : round t c n p ≡ Meets e q
-  turn = sym told ∙ meets ∙ ap (λ (y : Event). Meets y q) is
+module _ (t : Track) (c : ℕ → ℕ) (n p q : ℕ) (r : Round) (x e : Event) (told : r ≡ round t c n p) (meets : r ≡ Some (x, q)) (is : x ≡ e) where
+  turn : round t c n p ≡ Some (e, q)
+  turn = sym told ∙ meets ∙ ap (λ (y : Event). Some (y, q)) is
 
-  pub turn_left : p < n → walk t c n (n - p) p ≡ e ∷ walk t c n (n - q) q
-  turn_left h = walk_meets t c n p q e h turn
+  pub turn_left : walk t c n (n - p) p ≡ e ∷ walk t c n (n - q) q
+  turn_left = walk_meets t c n p q e turn
 
   pub turn_onward : (p < q) × (q ≤ n) × Sound t c n e
   turn_onward = met_onward t c n p q e turn
@@ -91,10 +89,6 @@ sound : (t : Track) (c : ℕ → ℕ) (n s : ℕ) (b : Block) → Sound t c n (A
 sound t c n s Missing h few = (h.0.0, h.0.1, tt)
 sound t c n s (Beyond m) h few = (h.0.0, h.0.1, omega (arith, h.1.0))
 sound t c n s (Within m) h few = (h.0.0, h.0.1, (omega (arith, h.1.0), h.1.1))
-
-pub turn_accepted : (t : Track) (c : ℕ → ℕ) (n p q : ℕ) (r : Round) (x : Event) (s : ℕ) (b : Block) → r ≡ round t c n p → r ≡ Meets x q
-    → x ≡ Accepted s b → n ≤ 2147483648 → (1 ≤ s) × (s ≤ t.layout.sectors) × Placed t.layout.mode c n b
-turn_accepted t c n p q r x s b told meets is few = sound t c n s b (turn_onward t c n p q r x (Accepted s b) told meets is).2 few
 
 -- ---- the blocks of a sector
 
@@ -110,10 +104,34 @@ module _ (t : Track) (c : ℕ → ℕ) (n : ℕ) where
   walk_sound (suc k) p = go (walk_sound k) (round t c n p) (onward t c n p _ (view t c n p))
     where
       go : ((q : ℕ) → Sounds (walk t c n k q)) → (o : Round) → Onward t c n p o → Sounds (follow t c n (walk t c n k) o)
-      go rest Ends h = tt
-      go rest (Meets e q) h = (h.2, rest q)
+      go rest None h = tt
+      go rest (Some (e, q)) h = (h.2, rest q)
 
-  -- and so is every block that its identifiers give.
+  sounds_at : (xs ys : List Event) (e : Event) → Sounds (xs ++ e ∷ ys) → Sound t c n e
+  sounds_at [] ys e h = h.0
+  sounds_at (x ∷ xs) ys e h = sounds_at xs ys e h.1
+
+  walk_length : (k p : ℕ) → length (walk t c n k p) ≤ k
+  unfolding walk follow
+  walk_length zero p = omega arith
+  walk_length (suc k) p = go (walk_length k) (round t c n p)
+    where
+      go : ((q : ℕ) → length (walk t c n k q) ≤ k) → (o : Round) → length (follow t c n (walk t c n k) o) ≤ suc k
+      go rest None = omega arith
+      go rest (Some (e, q)) = omega (arith, rest q)
+
+  -- What is known of an event, in the list of what the walk meets: how many were met before it, and of an accepted one that its sector is of the
+  -- layout and where its block lies.
+  module _ (done rest : List Event) (e : Event) (split : events t c n ≡ done ++ e ∷ rest) where
+    pub met_few : length done < n
+    unfolding events
+    met_few = omega (arith, walk_length n 0, ap length split, length-append done (e ∷ rest))
+
+    pub met_accepted : (s : ℕ) (b : Block) → e ≡ Accepted s b → n ≤ 2147483648 → (1 ≤ s) × (s ≤ t.layout.sectors) × Placed t.layout.mode c n b
+    unfolding events
+    met_accepted s b is few = sound t c n s b (rw is at (sounds_at done rest e (rw split at (walk_sound n 0)))) few
+
+  -- And so is every block that its identifiers give.
   abbrev pub AllWhole : List Block → Type 0
   AllWhole [] = Unit {0}
   AllWhole (b ∷ bs) = Whole t c n b × AllWhole bs

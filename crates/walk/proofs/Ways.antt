@@ -12,14 +12,12 @@ use Rattle.cells.specs.declared.Mode.TheVariants.{Fm, Mfm}
 use Rattle.layouts.specs.declared.Layout.{Layout}
 use Rattle.layouts.specs.declared.Track.{Track}
 use Rattle.marks.specs.Marks.{mark_cells, stands}
-use Rattle.search.specs.Search.{among, identifier_marks, either_marks, block_marks, first_mark}
+use Rattle.search.specs.Search.{among, identifier_marks, either_marks, block_marks, first_mark, Found}
 use Rattle.marks.specs.declared.Mark.{Mark}
 use Rattle.marks.specs.declared.Mark.TheVariants.{Index, Identifier, Data, Control, Open}
 use Rattle.marks.proofs.Spelling.{stands_room}
-use Rattle.search.specs.declared.Found.{Found}
-use Rattle.search.specs.declared.Found.TheVariants.{At, Nothing}
 use Rattle.search.proofs.Firsts.{first_known}
-use Rattle.walk.specs.Walk.{reach, edc_right, ours, claimed, first, reached, accepted, owned, judged, roomy, marked, round}
+use Rattle.walk.specs.Walk.{reach, edc_right, ours, claimed, first, reached, accepted, owned, judged, roomy, marked, round, Round}
 use Rattle.layouts.specs.Layouts.{block_cells}
 use Rattle.walk.specs.Turns.{BlockStands}
 use Rattle.verdicts.proofs.Tests.{clash}
@@ -27,8 +25,7 @@ use Rattle.walk.specs.declared.Block.{Block}
 use Rattle.walk.specs.declared.Block.TheVariants.{Missing, Beyond, Within}
 use Rattle.walk.specs.declared.Event.{Event}
 use Rattle.walk.specs.declared.Event.TheVariants.{Bad, Foreign, Accepted}
-use Rattle.walk.specs.declared.Round.{Round}
-use Rattle.walk.specs.declared.Round.TheVariants.{Ends, Meets}
+use Rattle.std.specs.Prelude.{Some, None}
 
 -- The cell after an identifier mark at i, and the cell after its six bytes.
 module _ (l : Layout) where
@@ -49,7 +46,7 @@ module _ (t : Track) (c : ℕ → ℕ) (n : ℕ) where
   -- The round found an identifier mark at i, with its six bytes; and whether their EDC is right.
   pub record Read (p i : ℕ) (right : Bool) : Type 0 where
     pub kind : Mark
-    pub place : identifier p ≡ At i kind
+    pub place : identifier p ≡ Some (i, kind)
     pub room : leb (rest t.layout i) n ≡ true
     pub check : edc_right t.layout.mode c Identifier (field t.layout i) 6 ≡ right
 
@@ -62,36 +59,36 @@ module _ (t : Track) (c : ℕ → ℕ) (n : ℕ) where
     pub owns : ours t c n (field t.layout i) ≡ true
 
   pub data Way (p : ℕ) : Round → Type 0 where
-    none : identifier p ≡ Nothing → Way p Ends
-    short : (i : ℕ) (k : Mark) → identifier p ≡ At i k → leb (rest t.layout i) n ≡ false → Way p Ends
-    wrong : (i : ℕ) → Read p i false → Way p (Meets Bad (field t.layout i))
-    other : (i : ℕ) → Read p i true → ours t c n (field t.layout i) ≡ false → Way p (Meets Foreign (rest t.layout i))
-    lost : (i : ℕ) → Took p i → either (rest t.layout i) ≡ Nothing → Way p (Meets (Accepted (sector i) Missing) (rest t.layout i))
-    again : (i m : ℕ) (k : Mark) → Took p i → either (rest t.layout i) ≡ At m k → among block_marks k ≡ false
-        → Way p (Meets (Accepted (sector i) Missing) (rest t.layout i))
-    block : (i m : ℕ) (k : Mark) → Took p i → either (rest t.layout i) ≡ At m k → among block_marks k ≡ true → leb (m + block_cells t.layout) n ≡ true
-        → Way p (Meets (Accepted (sector i) (Within m)) (m + block_cells t.layout))
-    cut : (i m : ℕ) (k : Mark) → Took p i → either (rest t.layout i) ≡ At m k → among block_marks k ≡ true → leb (m + block_cells t.layout) n ≡ false
-        → Way p (Meets (Accepted (sector i) (Beyond m)) n)
+    none : identifier p ≡ None → Way p None
+    short : (i : ℕ) (k : Mark) → identifier p ≡ Some (i, k) → leb (rest t.layout i) n ≡ false → Way p None
+    wrong : (i : ℕ) → Read p i false → Way p (Some (Bad, field t.layout i))
+    other : (i : ℕ) → Read p i true → ours t c n (field t.layout i) ≡ false → Way p (Some (Foreign, rest t.layout i))
+    lost : (i : ℕ) → Took p i → either (rest t.layout i) ≡ None → Way p (Some (Accepted (sector i) Missing, rest t.layout i))
+    again : (i m : ℕ) (k : Mark) → Took p i → either (rest t.layout i) ≡ Some (m, k) → among block_marks k ≡ false
+        → Way p (Some (Accepted (sector i) Missing, rest t.layout i))
+    block : (i m : ℕ) (k : Mark) → Took p i → either (rest t.layout i) ≡ Some (m, k) → among block_marks k ≡ true → leb (m + block_cells t.layout) n ≡ true
+        → Way p (Some (Accepted (sector i) (Within m), m + block_cells t.layout))
+    cut : (i m : ℕ) (k : Mark) → Took p i → either (rest t.layout i) ≡ Some (m, k) → among block_marks k ≡ true → leb (m + block_cells t.layout) n ≡ false
+        → Way p (Some (Accepted (sector i) (Beyond m), n))
 
   -- Every round goes one of these ways.
   pub view : (p : ℕ) → Way p (round t c n p)
   unfolding round marked roomy judged owned accepted reached first claimed
   view p = by_found (identifier p) refl
     where
-      by_end : (i m : ℕ) (k : Mark) → Took p i → either (rest t.layout i) ≡ At m k → among block_marks k ≡ true
+      by_end : (i m : ℕ) (k : Mark) → Took p i → either (rest t.layout i) ≡ Some (m, k) → among block_marks k ≡ true
           → (b : Bool) → leb (m + block_cells t.layout) n ≡ b → Way p (claimed t.layout n (sector i) m b)
       by_end i m k took e s true h = block i m k took e s h
       by_end i m k took e s false h = cut i m k took e s h
 
-      by_kind : (i m : ℕ) (k : Mark) → Took p i → either (rest t.layout i) ≡ At m k
+      by_kind : (i m : ℕ) (k : Mark) → Took p i → either (rest t.layout i) ≡ Some (m, k)
           → (b : Bool) → among block_marks k ≡ b → Way p (first t.layout n (sector i) (rest t.layout i) m b)
       by_kind i m k took e true s = by_end i m k took e s (leb (m + block_cells t.layout) n) refl
       by_kind i m k took e false s = again i m k took e s
 
       by_mark : (i : ℕ) → Took p i → (f : Found) → either (rest t.layout i) ≡ f → Way p (reached t.layout n (sector i) (rest t.layout i) f)
-      by_mark i took Nothing e = lost i took e
-      by_mark i took (At m k) e = by_kind i m k took e (among block_marks k) refl
+      by_mark i took None e = lost i took e
+      by_mark i took (Some (m, k)) e = by_kind i m k took e (among block_marks k) refl
 
       by_ours : (i : ℕ) → Read p i true → (b : Bool) → ours t c n (field t.layout i) ≡ b → Way p (owned t c n (field t.layout i) b)
       by_ours i r false o = other i r o
@@ -101,13 +98,13 @@ module _ (t : Track) (c : ℕ → ℕ) (n : ℕ) where
       by_edc i false r = wrong i r
       by_edc i true r = by_ours i r (ours t c n (field t.layout i)) refl
 
-      by_room : (i : ℕ) (k : Mark) → identifier p ≡ At i k → (b : Bool) → leb (rest t.layout i) n ≡ b → Way p (roomy t c n (field t.layout i) b)
+      by_room : (i : ℕ) (k : Mark) → identifier p ≡ Some (i, k) → (b : Bool) → leb (rest t.layout i) n ≡ b → Way p (roomy t c n (field t.layout i) b)
       by_room i k e true h = by_edc i _ (record { kind = k; place = e; room = h; check = refl })
       by_room i k e false h = short i k e h
 
       by_found : (f : Found) → identifier p ≡ f → Way p (marked t c n f)
-      by_found Nothing e = none e
-      by_found (At i k) e = by_room i k e (leb (rest t.layout i) n) refl
+      by_found None e = none e
+      by_found (Some (i, k)) e = by_room i k e (leb (rest t.layout i) n) refl
 
   -- What goes one of these ways is the round.
   pub only : (p : ℕ) (o : Round) → Way p o → round t c n p ≡ o
@@ -137,8 +134,8 @@ module _ (t : Track) (c : ℕ → ℕ) (n : ℕ) where
 
   -- The round goes on further, and within the image.
   abbrev pub Onward : ℕ → Round → Type 0
-  Onward p Ends = Unit {0}
-  Onward p (Meets e q) = (p < q) × (q ≤ n) × Sound e
+  Onward p None = Unit {0}
+  Onward p (Some (e, q)) = (p < q) × (q ≤ n) × Sound e
 
   pub mark_some : (mode : Mode) → 16 ≤ mark_cells mode
   mark_some Fm = omega arith

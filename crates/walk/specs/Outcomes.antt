@@ -1,14 +1,18 @@
 -- What each public function of this crate promises.
-use Rattle.std.specs.Prelude.{List, ◌≡◌, ℕ, ◌*◌, length}
+use Rattle.std.specs.Prelude.{List, ◌≡◌, ℕ, ◌-◌, ◌*◌, length}
 use Rattle.cells.specs.Cells.{cell}
 use Rattle.layouts.specs.declared.Track.{Track}
-use Rattle.walk.specs.Walk.{round, events}
+use Rattle.walk.specs.Walk.{round, walk, events, Round}
 use Rattle.walk.specs.declared.Event.{Event}
-use Rattle.walk.specs.declared.Round.{Round}
+use Rattle.walk.specs.declared.Walk.{Walk}
 
 -- `next_round` answers one round of the walk over an image, from a place on.
 abbrev pub IsRound : Track → List ℕ → (place : ℕ) → Round → Type 0
 IsRound t image place answer = answer ≡ round t (cell image) (8 * length image) place
+
+-- What the walk meets from the place on at which it stands.
+abbrev pub left : Walk → List Event
+left w = walk w.track (cell w.image.now) (8 * length w.image.now) (8 * length w.image.now - w.place) w.place
 
 -- What the walk meets on an image that the caller says is of this track.
 abbrev pub met : Track → List ℕ → List Event

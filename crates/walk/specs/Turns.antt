@@ -9,10 +9,9 @@ use Rattle.layouts.specs.declared.Track.{Track}
 use Rattle.marks.specs.Marks.{covered, last_bit, stands}
 use Rattle.marks.specs.declared.Mark.TheVariants.{Identifier, Data, Control, Open}
 use Rattle.search.specs.Search.{either_marks, first_mark}
-use Rattle.walk.specs.Walk.{reach, reached}
+use Rattle.walk.specs.Walk.{reach, reached, Round}
 use Rattle.walk.specs.declared.Block.{Block}
 use Rattle.walk.specs.declared.Block.TheVariants.{Missing, Beyond, Within}
-use Rattle.walk.specs.declared.Round.{Round}
 
 -- The address at cell p: its four bytes, the register once the identifier mark and all six bytes have entered it, and how many clock cells
 -- of the six are doubtful.

@@ -1,6 +1,6 @@
 -- How a track is read: one round of the walk as a function of the cell at which the head stands, and the walk as the list of what it meets
 -- (01, "How a track is read"). As in cells, c i is cell i of the image, and n the number of its cells.
-use Rattle.std.specs.Prelude.{Bool, true, false, ◌&&◌, List, [], ◌∷◌, ◌++◌, ℕ, zero, suc, ◌+◌, eqb, leb}
+use Rattle.std.specs.Prelude.{Bool, true, false, ◌&&◌, List, [], ◌∷◌, ◌++◌, ℕ, zero, suc, ◌+◌, eqb, leb, Option, Some, None}
 use Rattle.cells.specs.Cells.{data_byte, data_bytes}
 use Rattle.cells.specs.declared.Mode.{Mode}
 use Rattle.cells.specs.declared.Mode.TheVariants.{Fm, Mfm}
@@ -9,16 +9,12 @@ use Rattle.layouts.specs.Layouts.{block_cells}
 use Rattle.layouts.specs.declared.Layout.{Layout}
 use Rattle.layouts.specs.declared.Track.{Track}
 use Rattle.marks.specs.Marks.{covered, mark_cells}
-use Rattle.search.specs.Search.{among, identifier_marks, either_marks, block_marks, first_mark}
+use Rattle.search.specs.Search.{among, identifier_marks, either_marks, block_marks, first_mark, Found}
 use Rattle.marks.specs.declared.Mark.{Mark}
 use Rattle.marks.specs.declared.Mark.TheVariants.{Identifier}
-use Rattle.search.specs.declared.Found.{Found}
-use Rattle.search.specs.declared.Found.TheVariants.{At, Nothing}
 use Rattle.walk.specs.declared.Block.TheVariants.{Missing, Beyond, Within}
 use Rattle.walk.specs.declared.Event.{Event}
 use Rattle.walk.specs.declared.Event.TheVariants.{Bad, Foreign, Accepted}
-use Rattle.walk.specs.declared.Round.{Round}
-use Rattle.walk.specs.declared.Round.TheVariants.{Ends, Meets}
 
 -- How many cells after the address EDC a block's mark may begin: 0 up to this (step 3).
 abbrev pub reach : Mode → ℕ
@@ -29,22 +25,26 @@ reach Mfm = 1088
 unfoldable pub edc_right : Mode → (ℕ → ℕ) → Mark → ℕ → ℕ → Bool
 edc_right mode c mark p k = eqb (edc_of (covered mode mark ++ data_bytes c p k)) 0
 
+-- What one round gives: what the walk meets, and the cell at which it goes on; or it ends.
+abbrev pub Round : Type 0
+Round = Option (Event × ℕ)
+
 module _ (l : Layout) (n : ℕ) where
   -- Step 4: the block whose mark begins at m. If it is within the image the walk goes on after it; if not the walk ends, for from the
   -- image's end on no mark is found (the law `walk_past`).
   unfoldable pub claimed : ℕ → ℕ → Bool → Round
-  claimed sector m true = Meets (Accepted sector (Within m)) (m + block_cells l)
-  claimed sector m false = Meets (Accepted sector (Beyond m)) n
+  claimed sector m true = Some (Accepted sector (Within m), m + block_cells l)
+  claimed sector m false = Some (Accepted sector (Beyond m), n)
 
   -- Step 3: the first mark within reach is at m, and whether it is of a block; the cell after the address EDC is a.
   unfoldable pub first : ℕ → ℕ → ℕ → Bool → Round
   first sector a m true = claimed sector m (leb (m + block_cells l) n)
-  first sector a m false = Meets (Accepted sector Missing) a
+  first sector a m false = Some (Accepted sector Missing, a)
 
   -- Step 3: what is found within reach. None, or an identifier first: no data block.
   unfoldable pub reached : ℕ → ℕ → Found → Round
-  reached sector a Nothing = Meets (Accepted sector Missing) a
-  reached sector a (At m mark) = first sector a m (among block_marks mark)
+  reached sector a None = Some (Accepted sector Missing, a)
+  reached sector a (Some (m, mark)) = first sector a m (among block_marks mark)
 
 module _ (t : Track) (c : ℕ → ℕ) (n : ℕ) where
   -- The address at cell a is of this track: cylinder, side, sector number and fourth byte match (step 2).
@@ -65,22 +65,22 @@ module _ (t : Track) (c : ℕ → ℕ) (n : ℕ) where
   -- Step 2, of the address at a with a right EDC: whether it is ours.
   unfoldable pub owned : ℕ → Bool → Round
   owned a true = accepted a
-  owned a false = Meets Foreign (a + 96)
+  owned a false = Some (Foreign, a + 96)
 
   -- Step 2: whether the EDC of the six bytes at a is right. If it is wrong the walk goes on at a, the cell after the mark.
   unfoldable pub judged : ℕ → Bool → Round
   judged a true = owned a (ours a)
-  judged a false = Meets Bad a
+  judged a false = Some (Bad, a)
 
   -- Step 1: whether 96 cells follow the identifier mark; a is the cell after it.
   unfoldable pub roomy : ℕ → Bool → Round
   roomy a true = judged a (edc_right t.layout.mode c Identifier a 6)
-  roomy a false = Ends
+  roomy a false = None
 
   -- Step 1: the first identifier mark.
   unfoldable pub marked : Found → Round
-  marked Nothing = Ends
-  marked (At i mark) = roomy (i + mark_cells t.layout.mode) (leb (i + mark_cells t.layout.mode + 96) n)
+  marked None = None
+  marked (Some (i, mark)) = roomy (i + mark_cells t.layout.mode) (leb (i + mark_cells t.layout.mode + 96) n)
 
   -- One round of the walk, from cell p on.
   unfoldable pub round : ℕ → Round
@@ -88,8 +88,8 @@ module _ (t : Track) (c : ℕ → ℕ) (n : ℕ) where
 
   -- What a round meets, and what the walk meets from there on.
   unfoldable pub follow : (ℕ → List Event) → Round → List Event
-  follow next Ends = []
-  follow next (Meets event q) = event ∷ next q
+  follow next None = []
+  follow next (Some (event, q)) = event ∷ next q
 
   -- The walk from cell p on, in at most k rounds.
   unfoldable pub walk : ℕ → ℕ → List Event

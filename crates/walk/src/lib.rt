@@ -2,19 +2,21 @@
 // sector by sector; a request looks for the block of one sector.
 #![tactic(auto)]
 
+ghost use Rattle.std.specs.Prelude.{◌≡◌};
+ghost use Rattle.std.specs.Iterator.{YieldsFirst, item_count};
 ghost use Rattle.marks.specs.Outcomes.{Housed};
-ghost use Rattle.walk.specs.Outcomes.{IsRound};
+ghost use Rattle.walk.specs.Outcomes.{IsRound, met, left};
 
-use head::mark_from;
+use head::Head;
 use layouts::Track;
 use rounds::{address_at, block_of, is_ours};
-use search::{Found, IDENTIFIER_MARKS};
+use search::IDENTIFIER_MARKS;
 
 mod head;
 mod rounds;
 
 // What an accepted identifier gave. A place is the cell at which a block's mark begins.
-#[derive(Clone, Copy)]
+#[derive(Clone, Copy, Debug, PartialEq, Eq)]
 pub enum Block {
     // no data block
     Missing,
@@ -25,7 +27,7 @@ pub enum Block {
 }
 
 // What the walk meets.
-#[derive(Clone, Copy)]
+#[derive(Clone, Copy, Debug, PartialEq, Eq)]
 pub enum Event {
     // an identifier whose EDC is wrong
     Bad,
@@ -35,37 +37,66 @@ pub enum Event {
     Accepted(usize, Block),
 }
 
-// What one round of the walk gives.
-#[derive(Clone, Copy)]
-pub enum Round {
-    // the walk ends
-    Ends,
-    // it meets something, and goes on at a cell
-    Meets(Event, usize),
-}
-
-// One round of the walk, from `place` on: the next identifier mark, its address, and the block that follows.
-pub fn next_round(track: Track, image: &[u8], place: usize) -> Round
+// One round of the walk, from `place` on: the next identifier mark, its address, and the block that follows. It gives what the walk meets, and
+// the cell at which it goes on, or nothing where the walk ends.
+pub fn next_round(track: Track, image: &[u8], place: usize) -> Option<(Event, usize)>
     requires { Housed image.now }
     ensures { IsRound track image.now place result }
 {
     let layout = track.layout;
     let mode = layout.mode;
     let end = 8 * image.len();
-    let Found::At(mark, _) = mark_from(mode, IDENTIFIER_MARKS, image, place, end) else {
-        return Round::Ends;
+    let Some((mark, _)) = Head { image, cell: place }.next_mark(mode, IDENTIFIER_MARKS, end) else {
+        return None;
     };
     let field = mark + 16 * marks::mark_bytes(mode);
     let after = field + 96;
     if end < after {
-        return Round::Ends;
+        return None;
     }
     let address = address_at(mode, image, field);
     if address.register != 0 {
-        return Round::Meets(Event::Bad, field);
+        return Some((Event::Bad, field));
     }
     if !is_ours(track, address) {
-        return Round::Meets(Event::Foreign, after);
+        return Some((Event::Foreign, after));
     }
     block_of(layout, image, address.sector as usize, after)
+}
+
+// The walk over an image, as what it meets, one after the other.
+#[derive(Clone, Copy)]
+pub struct Walk<'a> {
+    track: Track,
+    image: &'a [u8],
+    place: usize,
+}
+
+impl<'a> Iterator for Walk<'a> {
+    type Item = Event;
+
+    ghost can_next = { λ s. Housed s.image.now };
+
+    ghost next_gives = { YieldsFirst left };
+
+    ghost remaining = { item_count left };
+
+    fn next(&mut self) -> Option<Event> {
+        let (event, next) = next_round(self.track, self.image, self.place)?;
+        self.place = next;
+        Some(event)
+    }
+}
+
+// The walk over a track's image, from its first cell on.
+pub fn met<'a>(track: Track, image: &'a [u8]) -> Walk<'a>
+    requires { Housed image.now }
+    ensures housed { Housed result.image.now }
+    ensures all { left result ≡ met track image.entry.now }
+{
+    Walk {
+        track,
+        image,
+        place: 0,
+    }
 }

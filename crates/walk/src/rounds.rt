@@ -5,12 +5,12 @@ ghost use Rattle.marks.specs.Outcomes.{Housed};
 ghost use Rattle.walk.specs.Walk.{reach};
 ghost use Rattle.walk.specs.Turns.{AddressAt, is_ours, block_of};
 
-use super::head::{byte_at, mark_from};
-use super::{Block, Event, Round};
+use super::head::Head;
+use super::{Block, Event};
 use cells::Mode;
 use layouts::{Layout, Track};
 use marks::Mark;
-use search::{EITHER_MARKS, Found};
+use search::EITHER_MARKS;
 
 // The four address bytes, and what the six bytes behind the identifier mark tell together.
 #[derive(Clone, Copy)]
@@ -41,12 +41,13 @@ pub(crate) fn address_at(mode: Mode, image: &[u8], place: usize) -> Address
     requires { place ≤ 4294967296 }
     ensures { AddressAt mode (cell image.now) place result.cylinder result.side result.sector result.fourth result.register result.clocks }
 {
-    let cylinder = byte_at(mode, marks::last_bit(Mark::Identifier), image, place);
-    let side = byte_at(mode, cylinder.byte % 2, image, place + 16);
-    let sector = byte_at(mode, side.byte % 2, image, place + 32);
-    let fourth = byte_at(mode, sector.byte % 2, image, place + 48);
-    let upper = byte_at(mode, fourth.byte % 2, image, place + 64);
-    let lower = byte_at(mode, upper.byte % 2, image, place + 80);
+    let head = Head { image, cell: place };
+    let cylinder = head.byte(0, mode, marks::last_bit(Mark::Identifier));
+    let side = head.byte(16, mode, cylinder.byte % 2);
+    let sector = head.byte(32, mode, side.byte % 2);
+    let fourth = head.byte(48, mode, sector.byte % 2);
+    let upper = head.byte(64, mode, fourth.byte % 2);
+    let lower = head.byte(80, mode, upper.byte % 2);
     let clocks = cylinder.clocks
         + side.clocks
         + sector.clocks
@@ -82,26 +83,31 @@ pub(crate) fn is_ours(track: Track, address: Address) -> bool
 }
 
 // Steps 3 and 4: what an accepted identifier of `sector` gives; `after` is the cell behind the address EDC.
-pub(crate) fn block_of(layout: Layout, image: &[u8], sector: usize, after: usize) -> Round
+pub(crate) fn block_of(
+    layout: Layout,
+    image: &[u8],
+    sector: usize,
+    after: usize,
+) -> Option<(Event, usize)>
     requires { Housed image.now × (after ≤ 4294967296) }
     ensures { result ≡ block_of layout (cell image.now) (8 * length image.now) sector after }
 {
     let mode = layout.mode;
     let end = 8 * image.len();
     let to = after + reach_of(mode) + 1;
-    let Found::At(place, mark) = mark_from(mode, EITHER_MARKS, image, after, to) else {
-        return Round::Meets(Event::Accepted(sector, Block::Missing), after);
+    let Some((place, mark)) = Head { image, cell: after }.next_mark(mode, EITHER_MARKS, to) else {
+        return Some((Event::Accepted(sector, Block::Missing), after));
     };
     if !marks::is_block(mark) {
-        return Round::Meets(Event::Accepted(sector, Block::Missing), after);
+        return Some((Event::Accepted(sector, Block::Missing), after));
     }
     let field = place + 16 * marks::mark_bytes(mode);
     let room = (end - field) / 16;
     if 2 <= room {
         if layout.size <= room - 2 {
             let next = field + 16 * (layout.size + 2);
-            return Round::Meets(Event::Accepted(sector, Block::Within(place)), next);
+            return Some((Event::Accepted(sector, Block::Within(place)), next));
         }
     }
-    Round::Meets(Event::Accepted(sector, Block::Beyond(place)), end)
+    Some((Event::Accepted(sector, Block::Beyond(place)), end))
 }

@@ -23,7 +23,6 @@ use Rattle.search.specs.Search.{among, standing, is_standing, first_mark, sought
 use Rattle.marks.specs.declared.Mark.{Mark}
 use Rattle.marks.specs.declared.Mark.TheVariants.{Index, Identifier, Data, Control, Open}
 use Rattle.search.specs.declared.Kinds.{Kinds}
-use Rattle.search.specs.declared.Found.TheVariants.{At, Nothing}
 use Rattle.search.proofs.Searching.{standing_none, not_standing, first_skip, first_end, first_found, le_or_lt}
 use Rattle.marks.proofs.Spelling.{Stand, stand_spells, string_width, one_mark}
 use Rattle.search.proofs.Telling.{standing_told}
@@ -32,11 +31,11 @@ use Rattle.search.specs.Search.{block_marks, identifier_marks, either_marks}
 use Rattle.walk.specs.Walk.{reach, edc_right, ours, round, follow, walk}
 use Rattle.walk.specs.declared.Block.TheVariants.{Within}
 use Rattle.walk.specs.declared.Event.TheVariants.{Accepted}
-use Rattle.walk.specs.declared.Round.TheVariants.{Ends, Meets}
 use Rattle.walk.proofs.Ways.{only, none, block}
 use Rattle.promises.specs.RoundTrip.{accepted_from}
 use Rattle.promises.proofs.formatting.Quiet.{Clear, Quiet}
 use Rattle.promises.proofs.formatting.Held.{identifier_cell, block_cell, turn, fields_sum, Stood, Held}
+use Rattle.std.specs.Prelude.{Some, None}
 
 -- ---- what a search finds
 
@@ -53,7 +52,7 @@ module _ (mode : Mode) (c : ℕ → ℕ) (n : ℕ) where
     some_clear p f = not_standing mode c n kinds p (standing_none mode c n kinds p f)
 
     -- and where a mark of the kinds stands, that mark is found.
-    standing_here : (k : Mark) (p : ℕ) → among kinds k ≡ true → stands mode c n k p ≡ true → standing mode c n kinds p ≡ At p k
+    standing_here : (k : Mark) (p : ℕ) → among kinds k ≡ true → stands mode c n k p ≡ true → standing mode c n kinds p ≡ Some (p, k)
     unfolding sought
     standing_here k p a s =
         standing_told c p mode n kinds k (λ other t. one_mark mode c n p k other s (right (among kinds other) _ t))
@@ -65,14 +64,14 @@ module _ (mode : Mode) (c : ℕ → ℕ) (n : ℕ) where
 
     -- The first mark behind a quiet stretch.
     first_here : (k : Mark) (p q to : ℕ) → p ≤ q → q < to → Quiet mode c n p q → among kinds k ≡ true → stands mode c n k q ≡ true
-        → first_mark mode c n kinds p to ≡ At q k
+        → first_mark mode c n kinds p to ≡ Some (q, k)
     first_here k p q to h l f a s =
         let here = standing_here k q a s in
         first_skip mode c n kinds p q to h (λ w x y. some_clear w (f w x y))
         ∙ first_found mode c n kinds q to q k l (sym here) refl
 
     -- No mark in a stretch that is quiet up to its end.
-    first_none : (p to : ℕ) → Quiet mode c n p to → first_mark mode c n kinds p to ≡ Nothing
+    first_none : (p to : ℕ) → Quiet mode c n p to → first_mark mode c n kinds p to ≡ None
     first_none p to f =
         ⊎_elim (λ (h : to ≤ p). first_end mode c n kinds p to h)
         (λ (h : p < to).
@@ -118,7 +117,7 @@ module _ (t : Track) (c : ℕ → ℕ) (n : ℕ) where
   -- One round over a sector.
   sector_round : 16 * (t.layout.identifier_gap + t.layout.sync) ≤ reach t.layout.mode → (i s : ℕ) (m : Mark) (xs : List ℕ) → Numbered t.layout s
       → among block_marks m ≡ true → Stood t c n i s m xs
-      → round t c n (turn t.layout i) ≡ Meets (Accepted s (Within (block_cell t.layout i))) (turn t.layout (suc i))
+      → round t c n (turn t.layout i) ≡ Some (Accepted s (Within (block_cell t.layout i)), turn t.layout (suc i))
   sector_round near i s m xs h k here =
       let mode = t.layout.mode in
       let a : ℕ = identifier_cell t.layout i + mark_cells mode in
@@ -157,7 +156,7 @@ module _ (t : Track) (c : ℕ → ℕ) (n : ℕ) where
   walk_end : (k i : ℕ) → Quiet t.layout.mode c n (turn t.layout i) n → walk t c n k (turn t.layout i) ≡ []
   unfolding walk follow
   walk_end zero i q = refl
-  walk_end (suc k) i q = rw (only t c n (turn t.layout i) Ends (none (first_none t.layout.mode c n identifier_marks (turn t.layout i) n q)))
+  walk_end (suc k) i q = rw (only t c n (turn t.layout i) None (none (first_none t.layout.mode c n identifier_marks (turn t.layout i) n q)))
 
   -- and over the sectors that stand it meets each of them.
   pub walk_held : 16 * (t.layout.identifier_gap + t.layout.sync) ≤ reach t.layout.mode → (contents marks order : List ℕ) (i k : ℕ)

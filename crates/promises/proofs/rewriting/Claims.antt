@@ -13,20 +13,19 @@ use Rattle.marks.specs.Marks.{stands}
 use Rattle.search.specs.Search.{among, is_standing}
 use Rattle.marks.specs.declared.Mark.{Mark}
 use Rattle.marks.specs.declared.Mark.TheVariants.{Index, Identifier, Data, Control, Open}
-use Rattle.search.specs.declared.Found.TheVariants.{At}
 use Rattle.search.proofs.Firsts.{first_known}
 use Rattle.search.specs.Search.{identifier_marks, either_marks, block_marks}
 use Rattle.layouts.specs.Layouts.{block_cells}
-use Rattle.walk.specs.Walk.{round, follow, walk, events}
+use Rattle.walk.specs.Walk.{round, follow, walk, events, Round}
 use Rattle.walk.specs.Events.{blocks}
 use Rattle.walk.specs.declared.Block.{Block}
 use Rattle.walk.specs.declared.Block.TheVariants.{Missing, Beyond, Within}
 use Rattle.walk.specs.declared.Event.{Event}
 use Rattle.walk.specs.declared.Event.TheVariants.{Bad, Foreign, Accepted}
-use Rattle.walk.specs.declared.Round.{Round}
 use Rattle.walk.proofs.Ways.{rest, identifier, either, Read, Took, Way, none, short, wrong, other, lost, again, block, cut, view}
 use Rattle.promises.proofs.rewriting.Searches.{some_there}
 use Rattle.promises.proofs.rewriting.Rounds.{identifier_low, either_low}
+use Rattle.std.specs.Prelude.{Some}
 
 -- Among these events the block at m is claimed for sector s.
 abbrev pub Claims : ℕ → ℕ → List Event → Type 0
@@ -76,7 +75,7 @@ pub record Led (l : Layout) (c : ℕ → ℕ) (n m q : ℕ) : Type 0 where
 
 module _ (t : Track) (c : ℕ → ℕ) (n : ℕ) where
   -- What step 1 finds, step 3 would find too.
-  identifier_some : (p i : ℕ) (k : Mark) → identifier t c n p ≡ At i k → is_standing t.layout.mode c n either_marks i ≡ true
+  identifier_some : (p i : ℕ) (k : Mark) → identifier t c n p ≡ Some (i, k) → is_standing t.layout.mode c n either_marks i ≡ true
   identifier_some p i k e =
       let found = (first_known t.layout.mode c n identifier_marks p n i k e).there in
       some_there t.layout.mode c n either_marks k i found.standing_there (by k found.looked)
@@ -89,14 +88,14 @@ module _ (t : Track) (c : ℕ → ℕ) (n : ℕ) where
       by Open e = refl
 
   module _ (s m : ℕ) where
-    led_at : (p i : ℕ) (k : Mark) → identifier t c n p ≡ At i k → rest t.layout i ≤ m → Placed t.layout c n m → Led t.layout c n m p
+    led_at : (p i : ℕ) (k : Mark) → identifier t c n p ≡ Some (i, k) → rest t.layout i ≤ m → Placed t.layout c n m → Led t.layout c n m p
     led_at p i k e u P =
         record { lead = i; low = identifier_low t c n p i k e; high = u; holds = identifier_some p i k e; placed = P }
 
     led_later : {p i : ℕ} {b : Bool} → Read t c n p i b → (q : ℕ) → i ≤ q → Led t.layout c n m q → Led t.layout c n m p
     led_later {p} {i} r q u f = led_at p i r.kind r.place (omega arith) f.placed
 
-    led_here : {p i : ℕ} → Took t c n p i → (b : ℕ) (k : Mark) → either t c n (rest t.layout i) ≡ At b k
+    led_here : {p i : ℕ} → Took t c n p i → (b : ℕ) (k : Mark) → either t c n (rest t.layout i) ≡ Some (b, k)
         → among block_marks k ≡ true → leb (b + block_cells t.layout) n ≡ true → b ≡ m → Led t.layout c n m p
     led_here {p} {i} took b k e s h z =
         led_at p i took.read.kind took.read.place (omega (arith, either_low t c n (rest t.layout i) b k e))

@@ -17,7 +17,6 @@ use Rattle.search.specs.Search.{among, choose, sought, standing}
 use Rattle.marks.specs.declared.Mark.{Mark}
 use Rattle.marks.specs.declared.Mark.TheVariants.{Index, Identifier, Data, Control, Open}
 use Rattle.search.specs.declared.Kinds.{Kinds}
-use Rattle.search.specs.declared.Found.TheVariants.{At, Nothing}
 use Rattle.marks.proofs.Spelling.{Stand, stands_bytes, string_length, is_false}
 use Rattle.search.proofs.Searching.{searchable}
 use Rattle.search.proofs.Clash.{start, string_parts, stand_move}
@@ -25,6 +24,7 @@ use Rattle.marks.specs.Marks.{last_byte}
 use Rattle.marks.specs.Marks.{mark_cells}
 use Rattle.search.specs.Search.{block_marks}
 use Rattle.promises.proofs.rewriting.Searches.{sort, found_there}
+use Rattle.std.specs.Prelude.{Some, None}
 
 -- ---- the cells of a mark
 
@@ -117,7 +117,7 @@ block_searchable Open e = tt
 
 -- All the marks of a block are of one sort, and found by whoever looks for such.
 pub block_sort : (mode : Mode) (c : ℕ → ℕ) (n : ℕ) (kinds : Kinds) (k : Mark) (w : ℕ) → stands mode c n k w ≡ true → among block_marks k ≡ true
-    → sort (standing mode c n kinds w) ≡ choose kinds.block (At w Data) Nothing
+    → sort (standing mode c n kinds w) ≡ choose kinds.block (Some (w, Data)) None
 block_sort mode c n kinds k w there e = ap sort (found_there mode c n kinds k w there) ∙ rw (looked k e) (by kinds.block)
   where
     looked : (k : Mark) → among block_marks k ≡ true → among kinds k ≡ kinds.block
@@ -127,7 +127,7 @@ block_sort mode c n kinds k w there e = ap sort (found_there mode c n kinds k w 
     looked Control e = refl
     looked Open e = refl
 
-    by : (b : Bool) → sort (choose b (At w k) Nothing) ≡ choose b (At w Data) Nothing
+    by : (b : Bool) → sort (choose b (Some (w, k)) None) ≡ choose b (Some (w, Data)) None
     by true = rw e
     by false = refl
 

@@ -13,17 +13,15 @@ use Rattle.marks.specs.Marks.{covered}
 use Rattle.marks.specs.declared.Mark.{Mark}
 use Rattle.marks.specs.declared.Mark.TheVariants.{Identifier}
 use Rattle.search.specs.declared.Kinds.{Kinds}
-use Rattle.search.specs.declared.Found.TheVariants.{At}
 use Rattle.search.proofs.Firsts.{first_known}
 use Rattle.search.specs.Search.{identifier_marks, either_marks}
-use Rattle.walk.specs.Walk.{reach, edc_right, ours, round}
+use Rattle.walk.specs.Walk.{reach, edc_right, ours, round, Round}
 use Rattle.layouts.specs.Layouts.{block_cells}
 use Rattle.walk.specs.declared.Block.TheVariants.{Missing, Beyond, Within}
 use Rattle.walk.specs.declared.Event.TheVariants.{Accepted}
-use Rattle.walk.specs.declared.Round.{Round}
-use Rattle.walk.specs.declared.Round.TheVariants.{Ends, Meets}
 use Rattle.walk.proofs.Ways.{field, rest, identifier, either, Read, sector, Took, Way, none, short, wrong, other, lost, again, block, cut, only}
 use Rattle.promises.proofs.rewriting.Searches.{Alike, Sorted, first_none, first_sorted}
+use Rattle.std.specs.Prelude.{Some, None}
 
 -- A data byte reads its sixteen cells but the first.
 byte_same : (d c : ℕ → ℕ) (a : ℕ) → ((i : ℕ) → a < i → i < a + 16 → d i ≡ c i) → data_byte d a ≡ data_byte c a
@@ -47,10 +45,10 @@ bytes_same d c (suc k) a h =
     ap₂ ◌∷◌ (byte_same d c a (λ i l u. h i l (omega arith))) (bytes_same d c k (a + 16) (λ i l u. h i (omega arith) (omega arith)))
 
 module _ (t : Track) (c : ℕ → ℕ) (n : ℕ) where
-  pub identifier_low : (p i : ℕ) (k : Mark) → identifier t c n p ≡ At i k → p ≤ i
+  pub identifier_low : (p i : ℕ) (k : Mark) → identifier t c n p ≡ Some (i, k) → p ≤ i
   identifier_low p i k e = (first_known t.layout.mode c n identifier_marks p n i k e).low
 
-  pub either_low : (a m : ℕ) (k : Mark) → either t c n a ≡ At m k → a ≤ m
+  pub either_low : (a m : ℕ) (k : Mark) → either t c n a ≡ Some (m, k) → a ≤ m
   either_low a m k e = (first_known t.layout.mode c n either_marks a (a + reach t.layout.mode + 1) m k e).low
 
   -- The last place that a round looks at.
@@ -74,10 +72,10 @@ module _ (t : Track) (c d : ℕ → ℕ) (n : ℕ) where
     byte_at : (a x : ℕ) → p ≤ a → a + 96 ≤ hi → x ≤ 80 → data_byte d (a + x) ≡ data_byte c (a + x)
     byte_at a x f u z = byte_same d c (a + x) (λ i v w. A.cells i (omega arith) (omega arith))
 
-    identifier_same : (i : ℕ) (k : Mark) → identifier t c n p ≡ At i k → i ≤ hi → Sorted (identifier t d n p) i k
+    identifier_same : (i : ℕ) (k : Mark) → identifier t c n p ≡ Some (i, k) → i ≤ hi → Sorted (identifier t d n p) i k
     identifier_same i k e u = first_sorted t.layout.mode n identifier_marks c d p n i k (λ w a b. A.marks identifier_marks w a (omega arith)) e
 
-    either_same : (a m : ℕ) (k : Mark) → p ≤ a → either t c n a ≡ At m k → m ≤ hi → Sorted (either t d n a) m k
+    either_same : (a m : ℕ) (k : Mark) → p ≤ a → either t c n a ≡ Some (m, k) → m ≤ hi → Sorted (either t d n a) m k
     either_same a m k f e u =
         first_sorted t.layout.mode n either_marks c d a (a + reach t.layout.mode + 1) m k (λ w x y. A.marks either_marks w (omega arith) (omega arith)) e
 
@@ -118,33 +116,33 @@ module _ (t : Track) (c d : ℕ → ℕ) (n : ℕ) where
   pub same_way : (p : ℕ) (o : Round) (r : Way t c n p o) → Agrees t.layout n c d p (seen t c n r)
       → round t d n p ≡ o
   same_way p o (none e) A =
-      only t d n p Ends
+      only t d n p None
       (none (first_none t.layout.mode n identifier_marks c d p n (λ w a b. A.marks identifier_marks w a (omega arith)) e))
   same_way p o (short i k e h) A =
       let s = identifier_same A i k e (omega arith) in
-      only t d n p Ends (short i s.kind s.found h)
+      only t d n p None (short i s.kind s.found h)
   same_way p o (wrong i r) A = only t d n p _ (wrong i (read_same A r (omega arith)))
   same_way p o (other i r x) A = only t d n p _ (other i (read_same A r (omega arith)) (ours_same A r (omega arith) ∙ x))
   same_way p o (lost i took e) A =
       let low = identifier_low t c n p i took.read.kind took.read.place in
       only t d n p _ (lost i (took_same A took (omega arith))
       (first_none t.layout.mode n either_marks c d (rest t.layout i) _ (λ w a b. A.marks either_marks w (omega arith) (omega arith)) e))
-      ∙ ap (λ s. Meets (Accepted s Missing) (rest t.layout i)) (sector_same A took (omega arith))
+      ∙ ap (λ s. Some (Accepted s Missing, rest t.layout i)) (sector_same A took (omega arith))
   same_way p o (again i m k took e s) A =
       let low = identifier_low t c n p i took.read.kind took.read.place in
       let up = either_low t c n (rest t.layout i) m k e in
       let f = either_same A (rest t.layout i) m k (omega arith) e (omega arith) in
       only t d n p _ (again i m f.kind (took_same A took up) f.found (f.sort_kept ∙ s))
-      ∙ ap (λ s. Meets (Accepted s Missing) (rest t.layout i)) (sector_same A took up)
+      ∙ ap (λ s. Some (Accepted s Missing, rest t.layout i)) (sector_same A took up)
   same_way p o (block i m k took e s h) A =
       let low = identifier_low t c n p i took.read.kind took.read.place in
       let up = either_low t c n (rest t.layout i) m k e in
       let f = either_same A (rest t.layout i) m k (omega arith) e (omega arith) in
       only t d n p _ (block i m f.kind (took_same A took up) f.found (f.sort_kept ∙ s) h)
-      ∙ ap (λ s. Meets (Accepted s (Within m)) (m + block_cells t.layout)) (sector_same A took up)
+      ∙ ap (λ s. Some (Accepted s (Within m), m + block_cells t.layout)) (sector_same A took up)
   same_way p o (cut i m k took e s h) A =
       let low = identifier_low t c n p i took.read.kind took.read.place in
       let up = either_low t c n (rest t.layout i) m k e in
       let f = either_same A (rest t.layout i) m k (omega arith) e (omega arith) in
       only t d n p _ (cut i m f.kind (took_same A took up) f.found (f.sort_kept ∙ s) h)
-      ∙ ap (λ s. Meets (Accepted s (Beyond m)) n) (sector_same A took up)
+      ∙ ap (λ s. Some (Accepted s (Beyond m), n)) (sector_same A took up)

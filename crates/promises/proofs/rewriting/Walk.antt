@@ -7,26 +7,24 @@ use native.Mathlib.Omega.{arith}
 use Rattle.layouts.specs.declared.Track.{Track}
 use Rattle.search.specs.Search.{is_standing}
 use Rattle.marks.specs.declared.Mark.{Mark}
-use Rattle.search.specs.declared.Found.TheVariants.{At, Nothing}
 use Rattle.search.proofs.Firsts.{first_known}
 use Rattle.search.proofs.Searching.{le_or_lt}
 use Rattle.search.specs.Search.{either_marks}
-use Rattle.walk.specs.Walk.{reach, round, follow, walk, events}
+use Rattle.walk.specs.Walk.{reach, round, follow, walk, events, Round}
 use Rattle.layouts.specs.Layouts.{block_cells}
 use Rattle.walk.specs.declared.Event.{Event}
-use Rattle.walk.specs.declared.Round.{Round}
-use Rattle.walk.specs.declared.Round.TheVariants.{Ends, Meets}
 use Rattle.walk.proofs.Ways.{rest, either, Way, none, short, wrong, other, lost, again, block, cut, view, Onward, onward}
 use Rattle.promises.proofs.rewriting.Searches.{not_both, first_nothing}
 use Rattle.promises.proofs.rewriting.Rounds.{seen, same_way}
 use Rattle.promises.proofs.rewriting.Claims.{Claims, Placed, Led, led, claimed_placed}
 use Rattle.promises.proofs.rewriting.Rewritten.{Rewritten, agrees_after, agrees_before}
+use Rattle.std.specs.Prelude.{Some, None}
 
 -- ---- a round that a claim of the block at m follows looks no further than m
 
 module _ (t : Track) (c : ℕ → ℕ) (n m : ℕ) where
   -- A search for a mark comes no further than the identifier that leads to the block.
-  lost_low : (a : ℕ) → either t c n a ≡ Nothing → Led t.layout c n m a → a + reach t.layout.mode ≤ m
+  lost_low : (a : ℕ) → either t c n a ≡ None → Led t.layout c n m a → a + reach t.layout.mode ≤ m
   lost_low a e f =
       ⊎_elim
       (λ (h : f.lead ≤ a + reach t.layout.mode). not_both (is_standing t.layout.mode c n either_marks f.lead) f.holds
@@ -34,7 +32,7 @@ module _ (t : Track) (c : ℕ → ℕ) (n m : ℕ) where
       (λ h. omega arith)
       (le_or_lt f.lead (a + reach t.layout.mode))
 
-  again_low : (a b : ℕ) (k : Mark) → either t c n a ≡ At b k → Led t.layout c n m a → b ≤ m
+  again_low : (a b : ℕ) (k : Mark) → either t c n a ≡ Some (b, k) → Led t.layout c n m a → b ≤ m
   again_low a b k e f =
       ⊎_elim
       (λ (h : b ≤ f.lead). omega arith)
@@ -73,8 +71,8 @@ module _ (t : Track) (c d : ℕ → ℕ) (n m : ℕ) (R : Rewritten t.layout c d
       go : ((q : ℕ) → m + block_cells t.layout ≤ q → walk t d n k q ≡ walk t c n k q)
           → (o : Round) → Onward t c n p o
           → follow t d n (walk t d n k) o ≡ follow t c n (walk t c n k) o
-      go ih Ends h = refl
-      go ih (Meets e q) h = tail (ih q (omega arith))
+      go ih None h = refl
+      go ih (Some (e, q)) h = tail (ih q (omega arith))
 
   follow_before : (s : ℕ) (next after : ℕ → List Event) → ((q : ℕ) → Claims s m (next q) → after q ≡ next q)
       → after (m + block_cells t.layout) ≡ next (m + block_cells t.layout) → (p : ℕ) (o : Round) → Way t c n p o

@@ -1,19 +1,15 @@
--- `read_track` meets its contract: each turn of its loop is a round of the walk.
+-- `read_track` meets its contract: what it holds is what the events met so far give, and the rest is still to come.
 use mathlib.Core.Path.{◌≡◌}
-use Prim.Native.Nat.{◌+◌, ◌-◌, ◌*◌, ◌≤◌}
+use mathlib.Core.List.{◌++◌}
+use Prim.Native.Nat.{◌*◌}
 use lib.ListN.{length}
 use Rattle.cells.specs.Cells.{cell}
-use Rattle.walk.specs.Walk.{walk}
-use Rattle.walk.specs.Outcomes.{met}
+use Rattle.walk.specs.Outcomes.{met, left}
 use Rattle.read.proofs.States.{State}
 use Rattle.read.proofs.tracks.read_track.Given as goal
 
-abbrev pub invariant-loop-place : goal.invariant-loop-place
-invariant-loop-place l =
-    (l.place ≤ 8 * length l.image) × (l.bad + l.foreign ≤ l.place) × (length l.area ≡ l.track.layout.sectors * l.track.layout.size)
-    × State l.track (cell l.image) (8 * length l.image) (met l.track l.image) (walk l.track (cell l.image) (8 * length l.image) (8 * length l.image - l.place) l.place)
-    l.records l.area l.bad l.foreign
-
-abbrev pub decreases-loop-place : goal.decreases-loop-place
-decreases-loop-place l =
-    8 * length l.image - l.place
+abbrev pub invariant-loop-event : goal.invariant-loop-event
+invariant-loop-event l =
+    (met l.fn.track l.fn.image ≡ l.yielded ++ left l.event-iterator)
+    × (length l.area ≡ l.fn.track.layout.sectors * l.fn.track.layout.size)
+    × State l.fn.track (cell l.fn.image) (8 * length l.fn.image) l.yielded l.records l.area l.bad l.foreign

@@ -1,6 +1,5 @@
 -- `holds_block` meets its contract: the boundary, the end, and the mark that stands there.
-use mathlib.Core.Path.{sym, ap, ◌∙◌}
-use Rattle.search.specs.Search.{is_found}
+use mathlib.Core.Path.{◌∙◌}
 use Rattle.rewrite.proofs.Judged.{off_boundary, past_end, by_mark}
 use Rattle.rewrite.proofs.refusals.holds_block.Goals as goal
 
@@ -10,12 +9,6 @@ returns-then-place-ne0 c = off_boundary _ _ _ c.if-place-ne0.true
 pub returns-then-image-block_end : goal.returns-then-image-block_end
 returns-then-image-block_end c = past_end _ _ _ c.if-place-ne0.false _ c.block_end.ensures c.if-image-block_end.true
 
-pub returns-in_default : goal.returns-in_default
-returns-in_default c =
-    sym (ap is_found c.in_default.is) ∙ by_mark _ _ _ c.if-place-ne0.false _ c.block_end.ensures c.if-image-block_end.false
-    _ c.mark_at.ensures
-
 pub returns : goal.returns
 returns c =
-    sym (ap is_found c.in-At.is) ∙ by_mark _ _ _ c.if-place-ne0.false _ c.block_end.ensures c.if-image-block_end.false
-    _ c.mark_at.ensures
+    c.is_some.ensures ∙ by_mark _ _ _ c.if-place-ne0.false _ c.block_end.ensures c.if-image-block_end.false _ c.mark_at.ensures

@@ -19,7 +19,7 @@ returns-else-room-lt2 c =
     let a = c.args in
     let same = c.in-Fm.is in
     begun_within Fm same a.image.now a.at c.spelled_by.result (omega (arith, c.if-room-lt2.false))
-    (word_told Fm _ _ _ same (whole_fm _ (λ j. (c.type_inv.image j).fits) _ c.word_of-word.ensures) c.spelled_by.ensures)
+    (word_told Fm _ _ _ same (whole_fm _ (λ j. (c.type_inv.image j).fits) _ (omega (arith, c.from_be_bytes-word.ensures))) c.spelled_by.ensures)
 
 pub returns-else-room-lt8 : goal.returns-else-room-lt8
 returns-else-room-lt8 c =

@@ -7,11 +7,11 @@ use Rattle.search.proofs.places.three.Goals as goal
 
 pub returns-then-at-image : goal.returns-then-at-image
 unfolding word_at
-returns-then-at-image c = simp add-zero (omega (arith, c.word_of.ensures))
+returns-then-at-image c = simp add-zero (omega (arith, c.from_be_bytes.ensures))
 
 pub returns : goal.returns
 unfolding word_at
 returns c =
     let s = c.args in
     let past = get_or-eq_default s.image.now 0 c.if-at-image.false in
-    simp add-zero (omega (arith, c.word_of-2.ensures, past))
+    simp add-zero (omega (arith, c.from_be_bytes-2.ensures, past))

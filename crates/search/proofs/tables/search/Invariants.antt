@@ -6,11 +6,11 @@ use Rattle.cells.specs.Cells.{cell}
 use Rattle.search.specs.Search.{first_mark}
 use Rattle.search.proofs.tables.search.Given as goal
 
-abbrev pub invariant-loop-mode : goal.invariant-loop-mode
-invariant-loop-mode l =
+abbrev pub invariant-loop-at : goal.invariant-loop-at
+invariant-loop-at l =
     (0 < l.next)
     × (l.next ≤ 2305843009213693952)
     × (first_mark l.mode (cell l.image) (8 * length l.image) l.kinds l.from l.to ≡ first_mark l.mode (cell l.image) (8 * length l.image) l.kinds (max l.from (8 * l.next - 8)) l.to)
 
-abbrev pub decreases-loop-mode : goal.decreases-loop-mode
-decreases-loop-mode l = l.end - l.next
+abbrev pub decreases-loop-at : goal.decreases-loop-at
+decreases-loop-at l = l.end - l.next

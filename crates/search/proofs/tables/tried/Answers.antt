@@ -1,30 +1,23 @@
 -- `tried` meets its contract: before the place to look at next there is nothing, and behind it only what is left of the entry.
-use mathlib.Core.Path.{sym, ◌∙◌}
+use mathlib.Core.Path.{sym}
 use native.Mathlib.Omega.{arith}
 use borrow.Author.Rules.{rules}
-use Rattle.search.proofs.Passing.{entry, ended, after, met}
+use Rattle.search.proofs.Firsts.{stood}
+use Rattle.search.proofs.Passing.{entry, after, met}
+use Rattle.search.proofs.tables.tried.Goals.{in-Some+else-contains, in_default}
 use Rattle.search.proofs.tables.tried.Goals as goal
 
-pub loop-mode-init : goal.loop-mode-init
-loop-mode-init c =
-    let a = c.requires in
-    entry _ _ _ (λ j. (c.type_inv.image j).fits) _ _ _ _ a.0.1 a.1 a.2
+pub loop-left-init : goal.loop-left-init
+loop-left-init c = entry _ _ _ (λ j. (c.type_inv.image j).fits) _ _ _ _ c.requires.0.1 c.requires.1
 
-pub standing-found-requires : goal.standing-found-requires
-standing-found-requires c =
-    let left = c.loop-mode.invariant in
-    (search rules, omega arith, omega arith)
+pub returns-then-contains : goal.returns-then-contains
+returns-then-contains c =
+    met _ _ _ _ _ _ _ c.requires.0.1 c.loop-left.invariant (sym (rw c.in-Some.is at c.standing.ensures)) (search rules) (search rules)
 
-pub returns-then-is_within : goal.returns-then-is_within
-returns-then-is_within c =
-    met _ _ _ _ _ _ _ c.requires.0.1 c.loop-mode.invariant _ c.standing-found.ensures (sym c.is_within.ensures ∙ c.if-is_within.true) _
-
-pub returns-then-left-eq0 : goal.returns-then-left-eq0
-returns-then-left-eq0 c =
-    ended _ _ _ _ _ _ _ c.requires.0.1 c.loop-mode.invariant _ c.standing-found.ensures
-    (sym c.is_within.ensures ∙ c.if-is_within.false) c.if-left-eq0.true
-
-pub loop-mode-preserved : goal.loop-mode-preserved
-loop-mode-preserved c =
-    after _ _ _ _ _ _ _ c.requires.0.1 c.loop-mode.invariant _ c.standing-found.ensures
-    (sym c.is_within.ensures ∙ c.if-is_within.false) (search rules)
+pub loop-left-preserved : goal.loop-left-preserved
+loop-left-preserved c =
+    after _ _ _ _ _ _ _ c.requires.0.1 c.loop-left.invariant (search rules)
+    (elim c.match-standing.branch [
+      | in-Some+else-contains w ↦ λ l u. let same = (stood _ _ _ _ _ _ _ (sym (rw w.in-Some.is at c.standing.ensures))).0 in absurd (search rules)
+      | in_default w ↦ λ _ _. sym (rw w.in_default.is at c.standing.ensures)
+    ])

@@ -1,4 +1,5 @@
 -- `address_at` meets its contract: the bytes enter the register as they are read, and each is read after the last bit of the one before.
+use native.Mathlib.Nat.{add-zero}
 use Rattle.cells.specs.Cells.{cell}
 use Rattle.cells.proofs.Joined.{cell_lt}
 use Rattle.marks.specs.declared.Mark.TheVariants.{Identifier}
@@ -8,12 +9,12 @@ use Rattle.walk.proofs.rounds.address_at.Goals as goal
 pub returns : goal.returns
 returns c =
     let a = c.args in
-    let x1 = c.byte_at-cylinder.ensures.0 in
-    let x2 = c.byte_at-side.ensures.0 in
-    let x3 = c.byte_at-sector.ensures.0 in
-    let x4 = c.byte_at-fourth.ensures.0 in
-    let x5 = c.byte_at-upper.ensures.0 in
-    let x6 = c.byte_at-lower.ensures.0 in
+    let x1 = rw add-zero at c.byte-cylinder.ensures.0 in
+    let x2 = c.byte-side.ensures.0 in
+    let x3 = c.byte-sector.ensures.0 in
+    let x4 = c.byte-fourth.ensures.0 in
+    let x5 = c.byte-upper.ensures.0 in
+    let x6 = c.byte-lower.ensures.0 in
     let r1 = c.byte_entered-one.ensures in
     let r2 = c.byte_entered-two.ensures in
     let r3 = c.byte_entered-three.ensures in

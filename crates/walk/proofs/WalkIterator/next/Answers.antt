@@ -1,0 +1,20 @@
+-- `next` meets its contract: a round gives the first of what is left.
+use mathlib.Core.Path.{◌≡◌, refl}
+use mathlib.Core.List.{◌∷◌}
+use native.Mathlib.Omega.{arith}
+use Rattle.walk.specs.Outcomes.{left}
+use Rattle.walk.proofs.Walking.{walk_ends, turn_left}
+use Rattle.walk.proofs.WalkIterator.next.Goals as goal
+
+pub returns-in_err-event-clause-steps : goal.returns-in_err-event-clause-steps
+returns-in_err-event-clause-steps c =
+    let none = walk_ends _ _ _ _ _ _ c.next_round.ensures c.in_err-event.was in
+    rw c.from_residual.ensures (none, none)
+
+pub returns-clause-steps : goal.returns-clause-steps
+returns-clause-steps c = turn_left _ _ _ _ _ _ _ _ c.next_round.ensures c.in_ok-event.was refl
+
+pub returns-clause-goes : goal.returns-clause-goes
+returns-clause-goes c =
+    let steps = turn_left _ _ _ _ _ _ _ _ c.next_round.ensures c.in_ok-event.was refl in
+    record { on = λ _. (c.requires, tt, rw steps (omega arith)); keeps = c.requires; rests = λ _. tt }
