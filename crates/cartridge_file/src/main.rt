@@ -159,9 +159,9 @@ fn main(rt: HostRuntime) {
         input = count_all(&rt, head, end);
     }
     if let Some(why) = input.broken {
-        streams::tell_broken(&stderr, "cartridge-file", input.end, why);
+        streams::tell_broken(&stderr, b"cartridge-file", input.end, why);
         return;
     }
     let printed = print_judged(&rt, &buffer[..end], file::whole(head, input.end));
-    streams::tell_lost(&stderr, "cartridge-file", printed);
+    streams::tell_lost(&stderr, b"cartridge-file", printed);
 }

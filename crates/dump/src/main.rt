@@ -73,13 +73,13 @@ fn main(rt: HostRuntime) {
     let input = streams::read_input(&rt, &mut buffer);
     let end = input.end;
     if let Some(why) = input.broken {
-        streams::tell_broken(&stderr, "dump", end, why);
+        streams::tell_broken(&stderr, b"dump", end, why);
         return;
     }
     let [layout, cylinder, side, image @ ..] = &buffer[..end] else {
-        streams::tell_lost(&stderr, "dump", print_refusal(&rt, 1));
+        streams::tell_lost(&stderr, b"dump", print_refusal(&rt, 1));
         return;
     };
     let printed = print_track(&rt, *layout, *cylinder, *side, image);
-    streams::tell_lost(&stderr, "dump", printed);
+    streams::tell_lost(&stderr, b"dump", printed);
 }

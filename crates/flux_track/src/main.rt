@@ -80,11 +80,11 @@ fn main(rt: HostRuntime) {
     let input = streams::read_input(&rt, &mut bytes);
     let end = input.end;
     if let Some(why) = input.broken {
-        streams::tell_broken(&stderr, "flux", end, why);
+        streams::tell_broken(&stderr, b"flux", end, why);
         return;
     }
     let Some((head, stamps)) = bytes[..end].split_first_chunk::<HEAD_BYTES>() else {
-        streams::tell_lost(&stderr, "flux", print_refusal(&rt, Refusal::TicksNumber));
+        streams::tell_lost(&stderr, b"flux", print_refusal(&rt, Refusal::TicksNumber));
         return;
     };
     if stamps.len() % WIDTH != 0 {
@@ -92,5 +92,5 @@ fn main(rt: HostRuntime) {
         return;
     }
     let printed = print_input(&rt, head, stamps);
-    streams::tell_lost(&stderr, "flux", printed);
+    streams::tell_lost(&stderr, b"flux", printed);
 }

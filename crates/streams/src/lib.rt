@@ -55,24 +55,26 @@ fn words(text: &str) -> &str {
 // Says what failed, and why in the system's words: with no memory for those, as std has them.
 fn fail(
     stderr: &(impl Print + Alloc),
-    program: &str,
+    program: &[u8],
     what: &str,
     why: io::Error,
 ) -> io::Result<()> {
+    stderr.write_all(program)?;
     match why.to_string(stderr.alloc()) {
-        Ok(text) => println!(stderr; "{program}: {what}: {}", words(&text)),
-        Err(_) => println!(stderr; "{program}: {what}: {why}"),
+        Ok(text) => println!(stderr; ": {what}: {}", words(&text)),
+        Err(_) => println!(stderr; ": {what}: {why}"),
     }
 }
 
 // Says why a read failed, and how far it came. Nothing can be done where that can't be said; the same holds below.
-pub fn tell_broken(stderr: &(impl Print + Alloc), program: &str, end: usize, why: io::Error) {
+pub fn tell_broken(stderr: &(impl Print + Alloc), program: &[u8], end: usize, why: io::Error) {
     let _ = fail(stderr, program, "the input could not be read", why);
-    let _ = println!(stderr; "{program}: bytes read before that: {end}");
+    let _ = stderr.write_all(program);
+    let _ = println!(stderr; ": bytes read before that: {end}");
 }
 
 // Says so where some of the output is lost.
-pub fn tell_lost(stderr: &(impl Print + Alloc), program: &str, printed: io::Result<()>) {
+pub fn tell_lost(stderr: &(impl Print + Alloc), program: &[u8], printed: io::Result<()>) {
     if let Err(why) = printed {
         let _ = fail(stderr, program, "the output could not be written", why);
     }
