@@ -1,7 +1,7 @@
 -- Where a sector's block is, as the walk goes on: what is held is what the events met so far give.
-use mathlib.Core.Path.{◌≡◌, refl, sym, ap, ◌∙◌}
+use mathlib.Core.Path.{◌≡◌, refl, ap, ◌∙◌}
 use mathlib.Core.Bool.{Bool, true, false, cond}
-use mathlib.Core.List.{List, [], ◌∷◌, ◌++◌, append-nil, append_assoc}
+use mathlib.Core.List.{List, [], ◌∷◌, ◌++◌, append-nil}
 use Prim.Native.Nat.{ℕ}
 use borrow.Author.Tests.{eq-eqb, ne_eqb}
 use lib.Dec.{eqb}
@@ -12,7 +12,6 @@ use Rattle.walk.specs.declared.Block.{Block}
 use Rattle.walk.specs.declared.Event.{Event}
 use Rattle.walk.specs.declared.Event.TheVariants.{Bad, Foreign, Accepted}
 use Rattle.locate.specs.declared.Located.{Located}
-use Rattle.locate.specs.declared.Located.TheVariants.{Unmet}
 use Rattle.walk.proofs.Events.{blocks_append, blocks_bad, blocks_foreign}
 
 located_next_lem : (bs : List Block) (b : Block) → located (bs ++ b ∷ []) ≡ located_next (located bs) b

@@ -1,24 +1,22 @@
 -- What the search passes over: the places of which a byte says that no mark begins there, and those that were looked at.
 use mathlib.Core.Path.{◌≡◌, refl, sym, ap, ◌∙◌}
-use mathlib.Core.Bool.{Bool, true, false, and-eq-true_iff}
+use mathlib.Core.Bool.{Bool, false}
 use mathlib.Core.List.{List}
 use mathlib.Core.Logic.{⊎_elim}
 use Prim.Native.Nat.{ℕ, ◌+◌, ◌-◌, ◌*◌, ◌/◌, ◌%◌, ◌<◌, ◌≤◌, min, max}
 use native.Mathlib.Omega.{arith}
-use lib.Dec.{leb, ltb}
 use lib.ListN.{length, get_or}
-use borrow.Author.Tests.{le-leb, lt-ltb, leb-true, ltb-true}
 use Rattle.cells.specs.Cells.{cell}
 use Rattle.cells.specs.declared.Mode.{Mode}
 use Rattle.cells.proofs.Joined.{aligned, cell_lt}
 use Rattle.marks.specs.Marks.{mark_bytes}
-use Rattle.search.specs.Search.{choose, standing, is_standing, first_mark, Found}
+use Rattle.search.specs.Search.{standing, is_standing, first_mark, Found}
 use Rattle.search.specs.Aids.{Rules}
 use Rattle.marks.specs.declared.Mark.{Mark}
 use Rattle.search.specs.declared.Kinds.{Kinds}
 use Rattle.search.proofs.Searching.{le_or_lt, not_standing, first_skip, first_end, first_beyond, first_found}
 use Rattle.search.proofs.Firsts.{stood}
-use Rattle.std.specs.Prelude.{Some, None, is_some}
+use Rattle.std.specs.Prelude.{Some, None}
 
 -- ---- one place that was looked at: what stands there, or the search goes on at the next cell
 

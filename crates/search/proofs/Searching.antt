@@ -9,12 +9,12 @@ use mathlib.Core.Logic.{◌⊎◌, inl, inr, ⊎_elim}
 use lib.Dec.{T}
 use Rattle.cells.specs.declared.Mode.{Mode}
 use Rattle.marks.specs.Marks.{string, mark_cells, of_block, stands}
-use Rattle.search.specs.Search.{find, among, block_marks, choose, sought, standing, is_standing, named, first_mark, Found}
+use Rattle.search.specs.Search.{find, among, block_marks, sought, standing, is_standing, named, first_mark, Found}
 use Rattle.marks.specs.declared.Mark.{Mark}
 use Rattle.marks.specs.declared.Mark.TheVariants.{Index, Identifier, Data, Control, Open}
 use Rattle.search.specs.declared.Kinds.{Kinds}
 use Rattle.marks.proofs.Spelling.{lies_beyond, string_width}
-use Rattle.std.specs.Prelude.{Some, None, is_some}
+use Rattle.std.specs.Prelude.{Some, None}
 
 pub le_or_lt : (a b : ℕ) → (a ≤ b) ⊎ (b < a)
 le_or_lt a b = elim (dec_le a b) [ yes h ↦ inl h | no h ↦ inr (omega arith) ]
@@ -124,11 +124,6 @@ module _ (mode : Mode) (c : ℕ → ℕ) (n : ℕ) (kinds : Kinds) where
   unfolding first_mark
   first_found p to q mark h e f =
       ap (named mode c n kinds) (find_hit (is_standing mode c n kinds) p to h (is_standing_lem p q mark (sym e ∙ f))) ∙ sym e
-
--- What a search answers, in the mode that an arm of the code knows.
-pub first_by : {mode : Mode} (m : Mode) (c : ℕ → ℕ) (n : ℕ) (kinds : Kinds) (from to : ℕ) {r : Found} → mode ≡ m → r ≡ first_mark m c n kinds from to
-    → r ≡ first_mark mode c n kinds from to
-first_by m c n kinds from to e f = rw e f
 
 -- The kinds of a block are its marks.
 pub block_among : (k : Mark) → of_block k ≡ among block_marks k

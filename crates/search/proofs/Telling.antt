@@ -7,7 +7,7 @@ use native.Mathlib.Nat.{add-zero}
 use native.Mathlib.Omega.{arith}
 use lib.Dec.{T, T_not, eqb, eqb_refl, leb}
 use lib.ListN.{length, get_or}
-use borrow.Author.Tests.{eq-eqb, ne_eqb, eqb-true, le-leb, lt-leb}
+use borrow.Author.Tests.{eq-eqb, ne_eqb, eqb-true, le-leb}
 use Rattle.cells.specs.Cells.{cell, octet}
 use Rattle.cells.specs.declared.Mode.{Mode}
 use Rattle.cells.specs.declared.Mode.TheVariants.{Fm, Mfm}
@@ -162,21 +162,6 @@ module _ (s : List ℕ) (bytes : (j : ℕ) → get_or s j 0 < 256) (at : ℕ) wh
 
   pub whole_mfm : {w : ℕ} → w ≡ word_at s at 8 → w ≡ octets (cell s) (8 * at) 8
   whole_mfm e = e ∙ sym (whole 8)
-
--- The room that a mark needs, in the mode that an arm of the code knows.
-pub room_by : {mode : Mode} (m : Mode) (next bytes : ℕ) → mode ≡ m → next + 2 * mark_bytes mode ≤ bytes → next + 2 * mark_bytes m ≤ bytes
-room_by m next bytes e h = rw e at h
-
--- What stands where a mark is told: it, if it is of the kinds and lies within the n cells.
-module _ (mode : Mode) (c : ℕ → ℕ) (p : ℕ) (k : Mark) (n : ℕ) (kinds : Kinds) (told : Tells mode c p (Some k)) where
-  pub told_within : among kinds k ≡ true → p + mark_cells mode ≤ n → standing mode c n kinds p ≡ Some (p, k)
-  told_within a h = told n kinds ∙ rw (a, le-leb (p + mark_cells mode) n h)
-
-  pub told_beyond : among kinds k ≡ true → n < p + mark_cells mode → standing mode c n kinds p ≡ None
-  told_beyond a h = told n kinds ∙ rw (a, lt-leb (p + mark_cells mode) n h)
-
-  pub told_other : among kinds k ≡ false → standing mode c n kinds p ≡ None
-  told_other a = told n kinds ∙ rw a
 
 -- What a byte of the image s begins, in the mode that an arm of the code knows: the mark that is told, where it has room.
 module _ {mode : Mode} (m : Mode) (same : mode ≡ m) (s : List ℕ) (at : ℕ) where

@@ -1,5 +1,5 @@
 -- What the functions of the search say to each other. No promise rests on it.
-use Rattle.std.specs.Prelude.{Bool, false, cond, ◌&&◌, List, ◌≡◌, ℕ, zero, suc, ◌+◌, ◌-◌, ◌*◌, ◌/◌, ◌%◌, ◌<◌, ◌≤◌, max, eqb, leb, ltb, length, get_or, Option, Some, None, option_map, is_some}
+use Rattle.std.specs.Prelude.{cond, List, ◌≡◌, ℕ, zero, suc, ◌+◌, ◌-◌, ◌*◌, ◌/◌, ◌%◌, ◌<◌, ◌≤◌, max, eqb, leb, length, get_or, Option, Some, None}
 use Rattle.cells.specs.Cells.{cell, octet}
 use Rattle.cells.specs.declared.Mode.{Mode}
 use Rattle.marks.specs.Marks.{string, mark_bytes, mark_cells}

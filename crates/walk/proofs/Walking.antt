@@ -60,9 +60,10 @@ module _ (t : Track) (c : ℕ → ℕ) (n : ℕ) where
   walk_ends zero p r told e = refl
   walk_ends (suc k) p r told e = ap (follow t c n (walk t c n k)) (sym told ∙ e)
 
-  walk_meets : (p q : ℕ) (e : Event) → round t c n p ≡ Some (e, q) → walk t c n (n - p) p ≡ e ∷ walk t c n (n - q) q
+  pub walk_meets : (p q : ℕ) (e : Event) (r : Round) → r ≡ round t c n p → r ≡ Some (e, q) → walk t c n (n - p) p ≡ e ∷ walk t c n (n - q) q
   unfolding follow
-  walk_meets p q e f =
+  walk_meets p q e r told meets =
+      let f = sym told ∙ meets in
       let o = met_onward p q e f in
       walk_one p (omega (arith, o.0, o.1))
       ∙ ap (follow t c n (walk t c n (n - p - 1))) f
@@ -71,17 +72,6 @@ module _ (t : Track) (c : ℕ → ℕ) (n : ℕ) where
   pub walk_all : events t c n ≡ walk t c n (n - 0) 0
   unfolding events
   walk_all = let e : n - 0 ≡ n = omega arith in rw e
-
--- A round of the code, which met the event e and goes on at q.
-module _ (t : Track) (c : ℕ → ℕ) (n p q : ℕ) (r : Round) (x e : Event) (told : r ≡ round t c n p) (meets : r ≡ Some (x, q)) (is : x ≡ e) where
-  turn : round t c n p ≡ Some (e, q)
-  turn = sym told ∙ meets ∙ ap (λ (y : Event). Some (y, q)) is
-
-  pub turn_left : walk t c n (n - p) p ≡ e ∷ walk t c n (n - q) q
-  turn_left = walk_meets t c n p q e turn
-
-  pub turn_onward : (p < q) × (q ≤ n) × Sound t c n e
-  turn_onward = met_onward t c n p q e turn
 
 -- An accepted sector is one of the layout's, and its block is so placed.
 sound : (t : Track) (c : ℕ → ℕ) (n s : ℕ) (b : Block) → Sound t c n (Accepted s b) → n ≤ 2147483648

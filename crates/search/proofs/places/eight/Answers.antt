@@ -1,6 +1,5 @@
 -- `eight` meets its contract: eight bytes joined at once are joined one by one.
 use mathlib.Core.Path.{◌≡◌, ap, ◌∙◌}
-use Prim.Native.Nat.{◌+◌}
 use lib.ListN.{take, drop}
 use borrow.Author.Rules.{rules}
 use Rattle.std.specs.Int.{w64, from_be_bytes}

@@ -1,19 +1,8 @@
 -- `told` meets its contract: shifted to the place, the word holds the octets there.
-use native.Mathlib.Omega.{arith}
 use Rattle.cells.specs.declared.Mode.TheVariants.{Fm, Mfm}
 use Rattle.search.specs.Aids.{word_at}
-use Rattle.search.proofs.Telling.{word_told, start_off, start_on, shifted_fm, shifted_mfm, room_by}
+use Rattle.search.proofs.Telling.{word_told, start_off, start_on, shifted_fm, shifted_mfm}
 use Rattle.search.proofs.places.told.Goals as goal
-
-pub three-requires : goal.three-requires
-three-requires c =
-    let room = room_by Fm c.args.next _ c.in-Fm.is c.requires.0.2 in
-    omega arith
-
-pub eight-requires : goal.eight-requires
-eight-requires c =
-    let room = room_by Mfm c.args.next _ c.in-Mfm.is c.requires.0.2 in
-    omega arith
 
 pub returns-then-eight-back-ne-START_MFM : goal.returns-then-eight-back-ne-START_MFM
 unfolding word_at

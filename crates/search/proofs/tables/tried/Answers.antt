@@ -1,6 +1,5 @@
 -- `tried` meets its contract: before the place to look at next there is nothing, and behind it only what is left of the entry.
 use mathlib.Core.Path.{sym}
-use native.Mathlib.Omega.{arith}
 use borrow.Author.Rules.{rules}
 use Rattle.search.proofs.Firsts.{stood}
 use Rattle.search.proofs.Passing.{entry, after, met}

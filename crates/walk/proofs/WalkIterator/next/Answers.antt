@@ -1,9 +1,6 @@
 -- `next` meets its contract: a round gives the first of what is left.
-use mathlib.Core.Path.{◌≡◌, refl}
-use mathlib.Core.List.{◌∷◌}
 use native.Mathlib.Omega.{arith}
-use Rattle.walk.specs.Outcomes.{left}
-use Rattle.walk.proofs.Walking.{walk_ends, turn_left}
+use Rattle.walk.proofs.Walking.{walk_ends, walk_meets}
 use Rattle.walk.proofs.WalkIterator.next.Goals as goal
 
 pub returns-in_err-event-clause-steps : goal.returns-in_err-event-clause-steps
@@ -12,9 +9,9 @@ returns-in_err-event-clause-steps c =
     rw c.from_residual.ensures (none, none)
 
 pub returns-clause-steps : goal.returns-clause-steps
-returns-clause-steps c = turn_left _ _ _ _ _ _ _ _ c.next_round.ensures c.in_ok-event.was refl
+returns-clause-steps c = walk_meets _ _ _ _ _ _ _ c.next_round.ensures c.in_ok-event.was
 
 pub returns-clause-goes : goal.returns-clause-goes
 returns-clause-goes c =
-    let steps = turn_left _ _ _ _ _ _ _ _ c.next_round.ensures c.in_ok-event.was refl in
+    let steps = walk_meets _ _ _ _ _ _ _ c.next_round.ensures c.in_ok-event.was in
     record { on = λ _. (c.requires, tt, rw steps (omega arith)); keeps = c.requires; rests = λ _. tt }
