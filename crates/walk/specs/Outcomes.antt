@@ -1,4 +1,5 @@
 -- What each public function of this crate promises.
+use Rattle.std.specs.Borrow.{Bor}
 use Rattle.std.specs.Prelude.{List, ◌≡◌, ℕ, ◌-◌, ◌*◌, length}
 use Rattle.cells.specs.Cells.{cell}
 use Rattle.layouts.specs.declared.Track.{Track}
@@ -9,6 +10,10 @@ use Rattle.walk.specs.declared.Walk.{Walk}
 -- `next_round` answers one round of the walk over an image, from a place on.
 abbrev pub IsRound : Track → List ℕ → (place : ℕ) → Round → Type 0
 IsRound t image place answer = answer ≡ round t (cell image) (8 * length image) place
+
+-- `met` answers the walk at the first cell of a lent image.
+abbrev pub IsWalk : Track → Bor (List ℕ) → Walk → Type 0
+IsWalk t image answer = answer ≡ record { track = t; image = image; place = 0 }
 
 -- What the walk meets from the place on at which it stands.
 abbrev pub left : Walk → List Event

@@ -5,7 +5,7 @@
 ghost use Rattle.std.specs.Prelude.{◌≡◌};
 ghost use Rattle.std.specs.Iterator.{YieldsFirst, item_count};
 ghost use Rattle.marks.specs.Outcomes.{Housed};
-ghost use Rattle.walk.specs.Outcomes.{IsRound, met, left};
+ghost use Rattle.walk.specs.Outcomes.{IsRound, IsWalk, met, left};
 
 use head::Head;
 use layouts::Track;
@@ -64,12 +64,12 @@ pub fn next_round(track: Track, image: &[u8], place: usize) -> Option<(Event, us
     block_of(layout, image, address.sector as usize, after)
 }
 
-// The walk over an image, as what it meets, one after the other.
+// The walk, at the cell of an image from which it goes on: it gives what it meets, one after the other.
 #[derive(Clone, Copy)]
 pub struct Walk<'a> {
-    track: Track,
-    image: &'a [u8],
-    place: usize,
+    pub track: Track,
+    pub image: &'a [u8],
+    pub place: usize,
 }
 
 impl<'a> Iterator for Walk<'a> {
@@ -91,7 +91,7 @@ impl<'a> Iterator for Walk<'a> {
 // The walk over a track's image, from its first cell on.
 pub fn met<'a>(track: Track, image: &'a [u8]) -> Walk<'a>
     requires { Housed image.now }
-    ensures housed { Housed result.image.now }
+    ensures is { IsWalk track image.entry result }
     ensures all { left result ≡ met track image.entry.now }
 {
     Walk {
