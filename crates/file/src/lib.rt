@@ -59,7 +59,7 @@ pub struct Sections {
 
 // The number that the papers give a refusal.
 impl From<Refusal> for u8 {
-    ghost from_gives = { λ refusal number. IsRefusalNumber refusal number };
+    ghost from_gives = { IsRefusalNumber };
 
     fn from(refusal: Refusal) -> u8 {
         match refusal {

@@ -9,7 +9,6 @@ use lib.ListN.{length, get_or, drop, drop_of_length-le}
 use lib.Seq.{drop-cons}
 use borrow.Author.Tests.{eq-eqb, ne_eqb, eqb-true, not-false, lt-ltb, le-ltb}
 use Rattle.verdicts.specs.Tests.{Test, passed, refused, refusal, by}
-use Rattle.verdicts.proofs.Tests.{clash, first_passed}
 use Rattle.layouts.specs.Layouts.{layout_of, fields, numbers}
 use Rattle.calls.specs.Refusals.{told, area_test, mark_test, control_test}
 use Rattle.layouts.specs.Refusals.{track_tests}

@@ -17,7 +17,12 @@ fn area_tests(layout: Layout, sector: u32, first: usize, second: usize) -> Resul
 }
 
 // 4, 9, 5 of a pick.
-pub(crate) fn pick_tested(layout: u32, sector: u32, first: usize, second: usize) -> Result<(), Refusal>
+pub(crate) fn pick_tested(
+    layout: u32,
+    sector: u32,
+    first: usize,
+    second: usize,
+) -> Result<(), Refusal>
     ensures { result ≡ told (refusal (pick_tests layout sector first second)) }
 {
     layouts::layout_number(layout)?;

@@ -11,7 +11,7 @@ use Rattle.calls.specs.Refusals.{told}
 use Rattle.layouts.specs.Tracks.{track_of}
 use Rattle.calls.specs.declared.Refusal.{Refusal}
 use Rattle.calls.specs.declared.Refusal.TheVariants.{Unreadable, OffBoundary}
-use Rattle.std.specs.Prelude.{⊤, Result, Ok, Err, IsErrAnd}
+use Rattle.std.specs.Prelude.{Result, Ok, Err, IsErrAnd}
 use Rattle.calls.proofs.Refusals.{told_passed, then_refused, answer_handed}
 use Rattle.verdicts.specs.Tests.{Verdict, passed, refusal, by}
 use Rattle.verdicts.proofs.Tests.{clash, append_passed, passed_both}

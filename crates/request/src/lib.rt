@@ -10,7 +10,7 @@ use rewrite::Plan;
 mod refusals;
 
 // Asks for the rewrite of a sector: a plan that notes where its block is. `mark` is FB or F8, and `contents` the sector's new bytes. The image
-// is walked once, and only where the call itself is right.
+// is walked once, and only where the call itself is right. (The walk itself refuses no call that has passed the tests before it.)
 pub fn request(
     numbers: TrackNumbers,
     sector: u32,

@@ -37,7 +37,7 @@ pub(crate) fn call_tests(
     contents_tests(taken, numbers.cylinder, mark, contents)
 }
 
-// 10 and 11: the plan for the block that the walk located. (The walk itself refuses no call that has passed the tests before it.)
+// 10 and 11: the plan for the block that the walk located.
 pub(crate) fn noted(layout: u32, located: Located) -> Result<Plan, Refusal>
     requires { cell_of located < 4294967296 }
     ensures { result ≡ by (refusal (place_tests located)) (Ok (first_plan layout located)) Err }

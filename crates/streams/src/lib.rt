@@ -59,7 +59,7 @@ fn fail(
     what: &str,
     why: io::Error,
 ) -> io::Result<()> {
-    stderr.write_all(program)?;
+    let _ = stderr.write_all(program);
     match why.to_string(stderr.alloc()) {
         Ok(text) => println!(stderr; ": {what}: {}", words(&text)),
         Err(_) => println!(stderr; ": {what}: {why}"),

@@ -3,7 +3,6 @@ use Prim.Native.Nat.{ℕ, ◌+◌, ◌<◌, ◌≤◌}
 use mathlib.Core.Path.{sym, ap, ◌∙◌}
 use native.Mathlib.Nat.{zero-add, sub-zero}
 use native.Mathlib.Omega.{arith}
-use lib.ListN.{length}
 use Rattle.format.proofs.Judged.{one_told, number_hit, number_miss, number_end, control_at}
 use Rattle.format.proofs.Turns.{left_step, next}
 use borrow.Author.Rules.{rules}

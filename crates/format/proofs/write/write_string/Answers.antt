@@ -1,5 +1,5 @@
 -- `write_string` meets its contract: the part that was lent holds the string.
-use Rattle.std.proofs.Common.{refl, arith}
+use Rattle.std.proofs.Common.{refl}
 use Rattle.cells.proofs.Stores.{part_put}
 use Rattle.format.proofs.write.write_string.Goals as goal
 
