@@ -11,7 +11,7 @@ use Rattle.answers.specs.declared.Record.{Record}
 abbrev pub AreUnread : List Record → Type 0
 AreUnread answer = answer ≡ unread_records
 
--- `fault_number` and `answer_number` answer the papers' numbers, and `answer_of` the answer of a number.
+-- `u8::from` gives a fault and an answer the papers' numbers, and `answer_of` answers the answer of a number.
 abbrev pub IsFaultNumber : Fault → ℕ → Type 0
 IsFaultNumber fault number = number ≡ fault_number fault
 

@@ -7,7 +7,7 @@ use Rattle.file.specs.Contents.{Content}
 use Rattle.file.specs.Sections.{encoded, sections_in}
 use Rattle.file.specs.Refusals.{refusal_number, head_tests, whole_tests, fit_tests, write_tests}
 
--- `refusal_number` answers the papers' number.
+-- `u8::from` gives a refusal the papers' number.
 abbrev pub IsRefusalNumber : Refusal → ℕ → Type 0
 IsRefusalNumber f number = number ≡ refusal_number f
 

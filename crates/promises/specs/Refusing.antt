@@ -59,7 +59,7 @@ LocateRefuses =
     → Locates layout cylinder side sector image answer
     → RefusedBy (locate_tests layout cylinder side (length image) sector) (locate_number answer)
 
--- 4, 9, 5 of the pick, whose answers and refusals are kept apart by the enum, since they share numbers;
+-- 4, 9, 5 of the pick, of which it is said by the refusal itself, since its answers and refusals share numbers;
 abbrev pub PickRefuses : Type 0
 PickRefuses =
     (layout sector : ℕ) (first : List ℕ) (one : List Record) (second : List ℕ) (two : List Record) (answer : Result Choice Refusal)

@@ -33,7 +33,7 @@ pub const BLOCK_MARKS: Kinds = Kinds {
     block: true,
 };
 
-// The mark of the kinds that the byte `at` begins, if one does, with its cell. This lays out no table, as a search does.
+// The mark of the kinds that the byte `at` begins, if one does, with its cell. This looks in no table, as a search does.
 pub fn mark_at(mode: Mode, kinds: Kinds, image: &[u8], at: usize) -> Option<(usize, Mark)>
     requires { Housed image.now }
     ensures { IsMarkAt mode kinds image.now at result }
