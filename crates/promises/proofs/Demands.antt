@@ -6,7 +6,7 @@ use Prim.Native.Nat.{ℕ, ◌*◌, ◌≤◌}
 use native.Mathlib.Omega.{arith}
 use lib.ListN.{length, replicate}
 use Rattle.pick.specs.declared.Choice.{Choice}
-use Rattle.std.specs.Prelude.{⊤, Result, Ok, Err}
+use Rattle.std.specs.Prelude.{Result, Ok, Err}
 use Rattle.cells.specs.Cells.{cell}
 use Rattle.format.specs.Order.{Numbered}
 use Rattle.layouts.specs.Layouts.{layout_of, slot_in}
@@ -22,20 +22,18 @@ use Rattle.pick.specs.Picks.{choice, pick_tests, chosen_of, stretch_of}
 use Rattle.answers.specs.declared.Answer.{Answer}
 use Rattle.answers.specs.declared.Answer.TheVariants as answers
 use Rattle.pick.specs.declared.Choice.TheVariants.{First, Second, Neither}
-use Rattle.pick.specs.declared.Choice.TheVariants as pick
 use Rattle.answers.specs.declared.Fault.TheVariants.{NoIdentifier}
 use Rattle.read.specs.declared.Reading.{Reading}
 use Rattle.answers.specs.declared.Record.{Record}
 use Rattle.answers.proofs.Numbering.{answers_apart}
 use Rattle.read.proofs.Passing.{modest}
 use Rattle.verdicts.specs.Tests.{Test, Verdict, passed, refused, refusal, by}
-use Rattle.verdicts.proofs.Tests.{clash, exactly, by_passed, by_refused, by_map}
+use Rattle.verdicts.proofs.Tests.{clash, exactly, by_refused, by_map}
 use Rattle.walk.specs.Events.{blocks}
 use Rattle.locate.specs.Outcomes.{located, located_number, locate_number}
 use Rattle.walk.specs.Outcomes.{met}
 use Rattle.walk.specs.declared.Block.{Block}
 use Rattle.walk.specs.declared.Block.TheVariants.{Missing, Beyond, Within}
-use Rattle.locate.specs.declared.Located.TheVariants as locate
 use lib.Dec.{leb}
 use Rattle.promises.specs.Reading.{NothingOldShows, RefusedLeavesZeros, RefusedSlotsAreZero, RefusedSectorsLeaveZeros, OfOnePass, PartOfOnePass}
 use Rattle.promises.specs.Refusing.{NumbersApart, RefusedBy, FormatRefuses, ReadRefuses, LocateRefuses, PickRefuses, RequestRefuses, StepRefuses}

@@ -8,7 +8,7 @@ use Prim.Native.Nat.{ℕ, ◌+◌, ◌-◌, ◌*◌, ◌<◌, ◌≤◌}
 use native.Mathlib.Omega.{arith}
 use borrow.Author.Tests.{le-leb}
 use lib.ListN.{length, get_or, replicate}
-use Rattle.std.specs.Prelude.{Result, Ok, Err}
+use Rattle.std.specs.Prelude.{Ok, Err}
 use Rattle.format.specs.Refusals.{format_tests}
 use Rattle.format.specs.Order.{Numbered}
 use Rattle.layouts.specs.Layouts.{layout_of, most_sectors, slot_in}
@@ -35,7 +35,7 @@ use Rattle.station.specs.Outcomes.{verdict_number, answered_records, answered_co
 use Rattle.station.specs.Picks.{pick_number, handed_on, part_of}
 use Rattle.station.specs.Records.{record_width, record_numbers, sector_numbers, record_list, numbered_at}
 use Rattle.verdicts.specs.Tests.{Verdict, passed, refused, refusal, by}
-use Rattle.verdicts.proofs.Tests.{clash, exactly, by_passed, by_map}
+use Rattle.verdicts.proofs.Tests.{exactly, by_passed, by_map}
 use Rattle.promises.specs.Doors.{Listed, DoorsRefuse, answer_in, place_in, clocks_in, RefusedReadGivesZeros, RefusedSectorsGiveZeros, RefusedPickGivesZeros, HandsOn, PickHandsOn, GivesBackAsWritten}
 use Rattle.promises.specs.Rewriting.{number}
 use Rattle.promises.proofs.Demands.{by_tests, taken, choice_unrefused, refused_sectors_leave_zeros}

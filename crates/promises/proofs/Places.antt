@@ -16,7 +16,7 @@ use Rattle.answers.specs.declared.Record.{Record}
 use Rattle.calls.specs.declared.Refusal.{Refusal}
 use Rattle.calls.proofs.Refusals.{sector_known}
 use Rattle.cells.specs.Cells.{cell}
-use Rattle.layouts.specs.Layouts.{layout_of, most_sectors}
+use Rattle.layouts.specs.Layouts.{layout_of}
 use Rattle.layouts.specs.Refusals.{reading_tests}
 use Rattle.layouts.specs.Tracks.{track_of}
 use Rattle.layouts.specs.declared.Track.{Track}

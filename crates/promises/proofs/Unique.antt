@@ -1,7 +1,7 @@
 -- The contract of every public function allows one outcome: a theorem for each, by the function's name. Those of station stand in UniqueDoors.antt.
 use mathlib.Core.Bool.{Bool}
 use mathlib.Core.List.{List}
-use mathlib.Core.Path.{◌≡◌, sym, ap, ap₂, ◌∙◌}
+use mathlib.Core.Path.{◌≡◌, sym, ap₂, ◌∙◌}
 use Prim.Native.Nat.{ℕ}
 use Rattle.std.specs.Prelude.{⊤, Result}
 use Rattle.cells.specs.Outcomes.{IsOctet, IsDataByte, IsReadByte, AreReadBytes, AreZeros}

@@ -1,6 +1,6 @@
 -- What can be said of the record of every sector, said of the sectors of an image and wherever a read hands the record out: requests that give it a field
 -- say by this what the field holds.
-use Rattle.std.specs.Prelude.{List, ◌≡◌, ℕ, Ok}
+use Rattle.std.specs.Prelude.{List, ℕ, Ok}
 use Rattle.answers.specs.Answers.{record_at}
 use Rattle.answers.specs.declared.Record.{Record}
 use Rattle.format.specs.Order.{Numbered}

@@ -128,8 +128,7 @@ pub(crate) fn standing(
     Some((place, mark))
 }
 
-// The mark that the byte `at` begins, if it begins one, by all its bytes at once. The modes share nothing here, not even the order in which
-// bytes are taken: what both begin with, the back end does before it tells them apart, and then loads MFM's bytes one by one.
+// The mark that the byte `at` begins, if it begins one, by all its bytes at once. Each mode asks for its own room, against a constant.
 pub(crate) fn begun(mode: Mode, image: &[u8], at: usize) -> Option<Mark>
     requires { at ≤ length image.now }
     ensures { Begins mode image.now at result }

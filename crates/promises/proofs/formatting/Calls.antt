@@ -28,7 +28,7 @@ use Rattle.layouts.specs.Tracks.{track_of}
 use Rattle.layouts.specs.declared.Layout.{Layout}
 use Rattle.layouts.specs.declared.Track.{Track}
 use Rattle.layouts.proofs.Layouts.{every_layout, adds}
-use Rattle.read.specs.Records.{Sector, records_of, area_of}
+use Rattle.read.specs.Records.{records_of, area_of}
 use Rattle.answers.specs.Answers.{answer_number, no_record, record_at}
 use Rattle.read.specs.Outcomes.{reading, read_tests, read_answer, read_area, Reads}
 use Rattle.read.specs.declared.Reading.{Reading}
