@@ -134,7 +134,6 @@ module _ (plan : Plan) (mark : ℕ) (contents image : List ℕ) (l : Layout) (na
 
   -- What is known where all tests pass.
   pub record Accepted : Type 0 where
-    pub small : l.size ≤ 65535
     pub byte : mark < 256
     pub whole : length contents ≡ l.size
     pub room : block_end l plan.place ≤ length image
@@ -158,7 +157,6 @@ module _ (plan : Plan) (mark : ℕ) (contents image : List ℕ) (l : Layout) (na
         let count = stores_count l image plan.place (mark_of mark) contents whole in
         let within : plan.made < store_count l plan.place (length image) = rw (← count) (leb-false _ _ twelve.0) in
         record {
-          small = small;
           byte = mark_right mark six.0;
           whole = whole;
           room = omega (arith, block);

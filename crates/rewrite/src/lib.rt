@@ -5,6 +5,7 @@
 ghost use Rattle.rewrite.specs.Outcomes.{CountsStores, Steps};
 
 use calls::Refusal;
+use values::Block;
 
 mod refusals;
 mod values;
@@ -34,8 +35,7 @@ pub fn stores_in_all(plan: Plan, bytes: usize) -> u32
     if layouts::layout_number(plan.layout).is_err() {
         return 0;
     }
-    let layout = layouts::layout_of(plan.layout);
-    values::count_of(layout, plan.place as usize, bytes) as u32
+    Block::of(plan).stores(bytes) as u32
 }
 
 // Makes the store that is next by the plan, and answers the plan for the next step; refused, it changes nothing. `mark` is FB or F8, and `contents`
@@ -43,16 +43,9 @@ pub fn stores_in_all(plan: Plan, bytes: usize) -> u32
 pub fn step(plan: Plan, mark: u32, contents: &[u8], image: &mut [u8]) -> Result<Plan, Refusal>
     ensures { Steps plan mark contents.now image.old result image.new }
 {
-    let layout = layouts::layout_of(plan.layout);
-    refusals::plan_tests(layout, plan, mark, contents, image)?;
-    let store = values::store_of(
-        layout,
-        mark as u8,
-        contents,
-        image,
-        plan.place as usize,
-        plan.made as usize,
-    );
+    let block = Block::of(plan);
+    refusals::plan_tests(block, mark, contents, image)?;
+    let store = values::store_of(block, mark as u8, contents, image);
     image[store.byte] = store.value;
     Ok(Plan {
         layout: plan.layout,
