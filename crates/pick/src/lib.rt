@@ -5,10 +5,11 @@ ghost use Rattle.pick.specs.Picks.{IsChosen, IsPicked, IsStretch};
 
 use answers::Record;
 use calls::Refusal;
-use layouts::MOST_SECTORS;
 
 mod passes;
 mod refusals;
+
+pub use passes::Pass;
 
 // What a pick from two passes takes, with the record that goes with it.
 #[derive(Clone, Copy)]
@@ -37,37 +38,20 @@ pub fn choose(
     Ok(passes::chosen_pass(one, two))
 }
 
-// The same, by all the records. Each pass is an area that `read` has filled, with its records.
-pub fn picked(
-    layout: u32,
-    sector: u32,
-    first: &[u8],
-    first_records: [Record; MOST_SECTORS],
-    second: &[u8],
-    second_records: [Record; MOST_SECTORS],
-) -> Result<Choice, Refusal>
-    ensures { IsPicked layout sector first.now first_records second.now second_records result }
+// The same, by the passes' areas and all their records.
+pub fn picked(layout: u32, sector: u32, first: Pass, second: Pass) -> Result<Choice, Refusal>
+    ensures { IsPicked layout sector first.entry.area.now first.entry.records second.entry.area.now second.entry.records result }
 {
-    refusals::pick_tested(layout, sector, first.len(), second.len())?;
-    Ok(passes::chosen_pass(
-        passes::record_at(first_records, sector),
-        passes::record_at(second_records, sector),
-    ))
+    refusals::pick_tested(layout, sector, first.area.len(), second.area.len())?;
+    Ok(passes::chosen_pass(first.record(sector), second.record(sector)))
 }
 
 // The bytes of the sector that `picked` takes: that pass's slot, or an empty part.
-pub fn pick<'a>(
-    layout: u32,
-    sector: u32,
-    first: &'a [u8],
-    first_records: [Record; MOST_SECTORS],
-    second: &'a [u8],
-    second_records: [Record; MOST_SECTORS],
-) -> &'a [u8]
-    ensures { IsStretch layout sector first.now first_records second.now second_records result.now }
+pub fn pick<'a>(layout: u32, sector: u32, first: Pass<'a>, second: Pass<'a>) -> &'a [u8]
+    ensures { IsStretch layout sector first.entry.area.now first.entry.records second.entry.area.now second.entry.records result.now }
 {
-    match picked(layout, sector, first, first_records, second, second_records) {
+    match picked(layout, sector, first, second) {
         Ok(choice) => passes::stretch(layouts::layout_of(layout), sector, first, second, choice),
-        Err(_) => &first[0..0],
+        Err(_) => &first.area[0..0],
     }
 }

@@ -6,13 +6,13 @@ use Rattle.pick.specs.Picks.{chosen_of, choice}
 use Rattle.pick.proofs.Picking.{pickable}
 use Rattle.pick.proofs.picked.Goals as goal
 
-pub record_at-requires : goal.record_at-requires
-record_at-requires c =
+pub record-requires : goal.record-requires
+record-requires c =
     let k = pickable _ _ _ _ (told_passed _ c.in_ok-pick_tested.ensures) in
     (k.low, k.few)
 
-pub record_at-requires-2 : goal.record_at-requires-2
-record_at-requires-2 c =
+pub record-requires-2 : goal.record-requires-2
+record-requires-2 c =
     let k = pickable _ _ _ _ (told_passed _ c.in_ok-pick_tested.ensures) in
     (k.low, k.few)
 
@@ -23,4 +23,4 @@ returns-in_err-pick_tested c = answer_handed _ _ _ _ c.in_err-pick_tested.ensure
 pub returns : goal.returns
 unfolding chosen_of
 returns c =
-    ap Ok (c.chosen_pass.ensures ∙ ap₂ choice c.record_at.ensures c.record_at-2.ensures) ∙ answer_passed _ _ _ c.in_ok-pick_tested.ensures
+    ap Ok (c.chosen_pass.ensures ∙ ap₂ choice c.record.ensures c.record-2.ensures) ∙ answer_passed _ _ _ c.in_ok-pick_tested.ensures
