@@ -78,6 +78,7 @@ pub fn checked_number<T: Copy>(answer: Result<T, Refusal>) -> u8
 }
 
 // What one test says. Its flags are joined by `|` and `&`: there is no branch that a proof would have to follow.
+#[tactic(auto, unfolding(crate::specs::Refusals::told, verdicts::specs::Tests::refusal, verdicts::specs::Tests::by))]
 pub fn tested(applies: bool, gives: Refusal) -> Result<(), Refusal>
     ensures { IsTested applies gives result }
 {

@@ -1,4 +1,6 @@
 // How long the parts of a track are, in track bytes.
+#![tactic(auto, unfolding(layouts::specs::Layouts::sector_fields, layouts::specs::Layouts::fields))]
+
 ghost use Rattle.std.specs.Prelude.{◌≡◌, ◌*◌, ◌≤◌};
 ghost use Rattle.layouts.specs.Layouts.{fields, sector_fields};
 

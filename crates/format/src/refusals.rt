@@ -1,4 +1,6 @@
 // The refusals of a format: the tests in the papers' order, of which the first that applies gives the refusal.
+#![tactic(auto, unfolding(crate::specs::Refusals::form_tests, crate::specs::Refusals::content_tests, crate::specs::Refusals::format_tests, layouts::specs::Refusals::track_tests, calls::specs::Refusals::told, verdicts::specs::Tests::refusal, verdicts::specs::Tests::by))]
+
 ghost use Rattle.std.specs.Prelude.{◌≡◌, ◌*◌, ◌≤◌, length};
 ghost use Rattle.verdicts.specs.Tests.{refusal};
 ghost use Rattle.layouts.specs.Layouts.{fields};

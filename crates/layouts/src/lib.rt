@@ -1,6 +1,6 @@
 // The layouts of a track, which track takes which, and the tests of a track's numbers. A layout is a value made of its type's constants, and a
 // track a layout with its place on the disk.
-#![tactic(auto)]
+#![tactic(auto, unfolding(crate::specs::Refusals::track_tests, crate::specs::Refusals::reading_tests, calls::specs::Refusals::told, verdicts::specs::Tests::refusal, verdicts::specs::Tests::by))]
 
 ghost use Rattle.std.specs.Prelude.{◌≡◌};
 ghost use Rattle.layouts.specs.Tracks.{allowed};
@@ -84,6 +84,7 @@ pub fn gap_byte(mode: Mode) -> u8
 }
 
 // The layout of a number. Above the highest there is none, and the calls are refused; layout 0 fills in.
+#[tactic(auto, unfolding(crate::specs::Layouts::layout_of))]
 pub fn layout_of(layout: u32) -> Layout
     ensures { IsLayoutOf layout result }
 {
@@ -123,6 +124,7 @@ impl TrackNumbers {
     }
 
     // Whether the track takes the layout.
+    #[tactic(auto, unfolding(crate::specs::Tracks::allowed))]
     fn is_allowed(self) -> bool
         ensures { result ≡ allowed self.layout self.cylinder self.side }
     {

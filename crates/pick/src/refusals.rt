@@ -1,4 +1,6 @@
 // The refusals of a pick, in the papers' order: the first test that applies.
+#![tactic(auto, unfolding(crate::specs::Picks::area_tests, crate::specs::Picks::pick_tests, calls::specs::Refusals::told, verdicts::specs::Tests::refusal, verdicts::specs::Tests::by))]
+
 ghost use Rattle.std.specs.Prelude.{◌≡◌};
 ghost use Rattle.calls.specs.Refusals.{told};
 ghost use Rattle.verdicts.specs.Tests.{refusal};
