@@ -102,6 +102,7 @@ impl From<Answer> for u8 {
 }
 
 // The answer that has a number; a number that is no answer's counts as 21.
+#[tactic(auto, unfolding(crate::specs::Answers::answer_of))]
 pub fn answer_of(number: u32) -> Answer
     ensures { IsAnswerOf number result }
 {
@@ -120,6 +121,7 @@ pub fn answer_of(number: u32) -> Answer
 }
 
 // Whether the number is an answer's: by what it lies between, so that the back end can look at many numbers at once.
+#[tactic(auto, unfolding(crate::specs::Answers::answer_of))]
 pub fn is_answer(number: u8) -> bool
     ensures { TellsAnswer number result }
 {
@@ -142,6 +144,7 @@ fn is_control(mark: Mark) -> bool
 
 // What a whole block answers after its mark, data or control, by its first data byte and whether its EDC is right. The tests stand in the order of the
 // papers; their flags are joined by `&`, so that no branch has to be followed.
+#[tactic(auto, unfolding(crate::specs::Letters::answer_after))]
 pub fn answer_after(cylinder: u32, mark: Mark, first: u8, right: bool) -> Answer
     ensures { IsAnswerAfter cylinder mark first right result }
 {

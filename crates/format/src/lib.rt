@@ -17,6 +17,7 @@ const NATURAL: [u8; MOST_SECTORS] =
 
 // Formats a track: `data` has the sectors' bytes and `marks` a byte FB or F8 for each, by sector number; `image` has the table's length. A refused
 // call changes nothing.
+#[tactic(auto, unfolding(calls::specs::Refusals::told, verdicts::specs::Tests::by))]
 pub fn format(
     numbers: TrackNumbers,
     data: &[u8],

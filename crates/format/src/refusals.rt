@@ -12,6 +12,7 @@ use calls::Refusal;
 use layouts::{Layout, TrackNumbers};
 
 // 6: whether there are more or fewer marks than sectors, or one is neither FB nor F8.
+#[tactic(auto, unfolding(crate::specs::Refusals::some, calls::specs::Refusals::told, verdicts::specs::Tests::refusal, verdicts::specs::Tests::by))]
 fn has_wrong_mark(sectors: usize, marks: &[u8]) -> bool
     ensures { result ≡ (marks_test sectors marks.now).applies }
 {
@@ -27,6 +28,7 @@ fn has_wrong_mark(sectors: usize, marks: &[u8]) -> bool
 }
 
 // 7: whether on cylinder 0 a sector has the mark F8 and another first byte than D.
+#[tactic(auto, unfolding(crate::specs::Refusals::some, calls::specs::Refusals::told, verdicts::specs::Tests::refusal, verdicts::specs::Tests::by))]
 fn has_wrong_control(layout: Layout, cylinder: u32, contents: &[u8], marks: &[u8]) -> bool
     requires { (length contents.now ≡ layout.sectors * layout.size) × (length marks.now ≡ layout.sectors) × (1 ≤ layout.size) }
     ensures { result ≡ (controls_test layout cylinder contents.now marks.now).applies }

@@ -22,6 +22,7 @@ pub enum Located {
 }
 
 // Where the block of a sector is, on a track that the caller names.
+#[tactic(auto, unfolding(calls::specs::Refusals::told, verdicts::specs::Tests::by))]
 pub fn locate(numbers: TrackNumbers, sector: u32, image: &[u8]) -> Result<Located, Refusal>
     ensures { Locates numbers.layout numbers.cylinder numbers.side sector image.now result }
 {

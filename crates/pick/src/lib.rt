@@ -24,6 +24,7 @@ pub enum Choice {
 
 // Which of two passes over a track answered for a sector, the first before the second, by the record that each has of it. Of the areas that go
 // with the records the lengths are tested.
+#[tactic(auto, unfolding(crate::specs::Picks::chosen_of, calls::specs::Refusals::told, verdicts::specs::Tests::by))]
 pub fn choose(
     layout: u32,
     sector: u32,
@@ -39,6 +40,7 @@ pub fn choose(
 }
 
 // The same, by the passes' areas and all their records.
+#[tactic(auto, unfolding(crate::specs::Picks::chosen_of, calls::specs::Refusals::told, verdicts::specs::Tests::by))]
 pub fn picked(layout: u32, sector: u32, first: Pass, second: Pass) -> Result<Choice, Refusal>
     ensures { IsPicked layout sector first.entry.area.now first.entry.records second.entry.area.now second.entry.records result }
 {

@@ -1,4 +1,6 @@
 // The refusals of a request, in the papers' order: the first test that applies. What a request says by itself is tested before the image is walked.
+#![tactic(auto, unfolding(crate::specs::Refusals::contents_tests, crate::specs::Refusals::call_tests, locate::specs::Outcomes::locate_tests, layouts::specs::Refusals::reading_tests, layouts::specs::Refusals::track_tests, calls::specs::Refusals::told, verdicts::specs::Tests::refusal, verdicts::specs::Tests::by))]
+
 ghost use Rattle.std.specs.Prelude.{◌≡◌, ◌≤◌, ◌<◌};
 ghost use Rattle.calls.specs.Refusals.{told};
 ghost use Rattle.verdicts.specs.Tests.{refusal, by};
@@ -38,6 +40,7 @@ pub(crate) fn call_tests(
 }
 
 // 10 and 11: the plan for the block that the walk located.
+#[tactic(auto, unfolding(crate::specs::Refusals::is_within, crate::specs::Refusals::cell_of, crate::specs::Refusals::place_tests, verdicts::specs::Tests::refusal, verdicts::specs::Tests::by))]
 pub(crate) fn noted(layout: u32, located: Located) -> Result<Plan, Refusal>
     requires { cell_of located < 4294967296 }
     ensures { result ≡ by (refusal (place_tests located)) (Ok (first_plan layout located)) Err }

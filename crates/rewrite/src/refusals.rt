@@ -1,4 +1,6 @@
 // The refusals of a step, in the papers' order: the first test that applies.
+#![tactic(auto, using(crate::proofs::Listed::stores_count), unfolding(crate::specs::Refusals::plan_tests, calls::specs::Refusals::told, verdicts::specs::Tests::refusal, verdicts::specs::Tests::by))]
+
 ghost use Rattle.std.specs.Prelude.{◌≡◌, ◌≤◌, ◌<◌};
 ghost use Rattle.calls.specs.Refusals.{told};
 ghost use Rattle.marks.specs.Outcomes.{Housed};
@@ -10,6 +12,7 @@ use calls::Refusal;
 use search::BLOCK_MARKS;
 
 // Whether a data, control or open mark stands at the plan's place on a byte boundary, with its block within the image.
+#[tactic(auto, unfolding(crate::specs::Refusals::holds_block, search::specs::Search::is_standing))]
 fn holds_block(block: Block, image: &[u8]) -> bool
     requires { Housed image.now }
     ensures { result ≡ holds_block block.layout image.now block.plan.place }

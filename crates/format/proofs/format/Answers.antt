@@ -32,11 +32,6 @@ write_track-requires c =
     }
     )
 
-pub returns-in_err-tested : goal.returns-in_err-tested
-returns-in_err-tested c =
-    let image = c.args.image.now in
-    refused_format _ _ _ _ _ image _ _ c.in_err-tested.ensures c.from_residual.ensures.1
-
 pub returns : goal.returns
 unfolding by
 returns c =

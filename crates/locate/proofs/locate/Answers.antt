@@ -11,17 +11,8 @@ use Rattle.walk.specs.Outcomes.{met}
 use Rattle.walk.proofs.Passing.{readable}
 use Rattle.locate.proofs.locate.Goals as goal
 
-pub returns-in_err-tested : goal.returns-in_err-tested
-returns-in_err-tested c = answer_handed _ _ _ _ c.in_err-tested.ensures c.from_residual.ensures.1
-
 pub locate_block-requires : goal.locate_block-requires
 unfolding locate_tests
 locate_block-requires c =
     let passes = told_passed _ c.in_ok-tested.ensures in
     omega (arith, (readable _ _ _ _ (passed_both _ _ passes).0).long)
-
-pub returns : goal.returns
-returns c =
-    let a = c.args in
-    ap Ok (c.locate_block.ensures ∙ ap (λ (t : Track). located (blocks a.sector (met t a.image.now))) c.track.ensures)
-    ∙ answer_passed _ _ _ c.in_ok-tested.ensures
