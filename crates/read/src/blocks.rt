@@ -159,6 +159,7 @@ fn identifier_told(track: Track, image: &[u8], block: Block, slot: &mut [u8]) ->
 }
 
 // The place that a block gives its sector.
+#[tactic(auto, unfolding(crate::specs::Turns::place_of))]
 fn place_of(block: Block) -> u32
     requires { place_of block ≤ 4294967295 }
     ensures { result ≡ place_of block }

@@ -27,6 +27,7 @@ pub struct Reading {
 
 // Reads a track: `area` has a slot for each sector number, sectors × N bytes in all. A refused sector's slot is all zero, and so is the whole
 // area of a refused call, of any length.
+#[tactic(auto, unfolding(crate::specs::Outcomes::read_answer, crate::specs::Outcomes::read_area, calls::specs::Refusals::told, verdicts::specs::Tests::by))]
 pub fn read(numbers: TrackNumbers, image: &[u8], area: &mut [u8]) -> Result<Reading, Refusal>
     ensures { Reads numbers.layout numbers.cylinder numbers.side image.now (length area.old) result area.new }
 {

@@ -1,4 +1,6 @@
 // The refusals of read, in the papers' order: the first test that applies.
+#![tactic(auto, unfolding(crate::specs::Outcomes::read_tests, layouts::specs::Refusals::reading_tests, layouts::specs::Refusals::track_tests, calls::specs::Refusals::told, verdicts::specs::Tests::refusal, verdicts::specs::Tests::by))]
+
 ghost use Rattle.std.specs.Prelude.{◌≡◌};
 ghost use Rattle.calls.specs.Refusals.{told};
 ghost use Rattle.verdicts.specs.Tests.{refusal};

@@ -14,6 +14,7 @@ use layouts::Track;
 use walk::{Block, Event};
 
 // A sector's record, and its slot in the area, once one more of its identifiers was accepted.
+#[tactic(auto, using(layouts::proofs::Layouts::slot_room))]
 fn enter(
     track: Track,
     image: &[u8],

@@ -25,25 +25,3 @@ read_track-requires c =
       rw t (modest a.numbers.layout),
       rw t (c.clear.ensures ∙ ap (λ (k : ℕ). replicate k 0) whole),
     )
-
-pub returns-in_err-tested : goal.returns-in_err-tested
-unfolding read_answer read_area
-returns-in_err-tested c =
-    let given = length c.args.area.now in
-    let refuses = c.in_err-tested.ensures in
-    record {
-      answers = answer_handed _ _ _ _ refuses c.from_residual.ensures.1;
-      leaves = c.clear.ensures ∙ answer_refused _ (λ f. replicate given 0) _ _ refuses;
-    }
-
-pub returns : goal.returns
-unfolding read_answer read_area
-returns c =
-    let passes = c.in_ok-tested.ensures in
-    let t = c.track.ensures in
-    let e = c.read_track.ensures in
-    let image = c.args.image.now in
-    record {
-      answers = ap Ok (e.0 ∙ ap (λ (x : Track). reading x image) t) ∙ answer_passed _ _ _ passes;
-      leaves = e.1 ∙ ap (λ (x : Track). area_of x (cell image) (8 * length image) (met x image)) t ∙ answer_passed _ _ _ passes;
-    }

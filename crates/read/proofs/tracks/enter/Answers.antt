@@ -4,24 +4,6 @@ use Rattle.read.proofs.Recording.{slot_put}
 use Rattle.layouts.proofs.Layouts.{slot_room}
 use Rattle.read.proofs.tracks.enter.Goals as goal
 
-pub overflow_mul-start : goal.overflow_mul-start
-overflow_mul-start c =
-    let a = c.args in
-    let h = slot_room a.track.layout.size a.track.layout.sectors a.sector c.requires.2 c.requires.3 in
-    omega (arith, c.requires, c.well_formed)
-
-pub overflow_add-end : goal.overflow_add-end
-overflow_add-end c =
-    let a = c.args in
-    let h = slot_room a.track.layout.size a.track.layout.sectors a.sector c.requires.2 c.requires.3 in
-    omega (arith, c.requires, c.well_formed)
-
-pub slice_bounds-next_record-end : goal.slice_bounds-next_record-end
-slice_bounds-next_record-end c =
-    let a = c.args in
-    let h = slot_room a.track.layout.size a.track.layout.sectors a.sector c.requires.2 c.requires.3 in
-    omega (arith, c.requires, c.well_formed)
-
 pub returns : goal.returns
 returns c =
     let a = c.args in

@@ -18,6 +18,7 @@ use Rattle.answers.specs.declared.Record.{Record}
 use Rattle.read.proofs.States.{State, state_start, state_bad, state_foreign, state_accepted}
 use Rattle.walk.proofs.Events.{counts_few}
 use Rattle.walk.proofs.Walking.{met_few, met_accepted}
+use Rattle.read.proofs.tracks.read_track.Goals.{In-Accepted}
 use Rattle.read.proofs.tracks.read_track.Goals as goal
 
 -- One event more was met.
@@ -41,6 +42,12 @@ module _ (t : Track) (image : List ℕ) (done : List Event) {now rest : List Eve
       → State t (cell image) (8 * length image) done records area bad foreign → bad + foreign < 2147483648
   counted split next state =
       omega (arith, housed, met_few _ _ _ _ _ _ (onto split next), counts_few done, state.has_bad, state.has_foreign)
+
+-- The same where the walk has met one.
+accepted : (c : In-Accepted) → (1 ≤ c.in-Accepted.sector) × (c.in-Accepted.sector ≤ c.args.track.layout.sectors)
+    × Placed c.args.track.layout.mode (cell c.args.image.now) (8 * length c.args.image.now) c.in-Accepted.block × Modest c.args.track.layout
+accepted c =
+    known _ _ c.loop-event.yielded _ c.requires.0 _ _ c.requires.1 c.loop-event.invariant.0 (rw c.in-Some.is at c.next.ensures.steps) c.in-Accepted.is
 
 pub loop-event-init : goal.loop-event-init
 loop-event-init c =
@@ -75,43 +82,39 @@ loop-event-preserved-in-Foreign c =
     )
 
 pub overflow_sub-before : goal.overflow_sub-before
-overflow_sub-before c =
-    let k = known _ _ c.loop-event.yielded _ c.requires.0 _ _ c.requires.1 c.loop-event.invariant.0 (rw c.in-Some.is at c.next.ensures.steps) c.in-Accepted.is in
-    k.0
+overflow_sub-before c = (accepted (goal.at.overflow_sub-before c).In-Accepted).0
 
 pub offset_bounds-records-sector : goal.offset_bounds-records-sector
 offset_bounds-records-sector c =
-    let k = known _ _ c.loop-event.yielded _ c.requires.0 _ _ c.requires.1 c.loop-event.invariant.0 (rw c.in-Some.is at c.next.ensures.steps) c.in-Accepted.is in
+    let k = accepted (goal.at.offset_bounds-records-sector c).In-Accepted in
     omega (arith, k.1, k.3)
 
 pub bounds-records-sector : goal.bounds-records-sector
 bounds-records-sector c =
-    let k = known _ _ c.loop-event.yielded _ c.requires.0 _ _ c.requires.1 c.loop-event.invariant.0 (rw c.in-Some.is at c.next.ensures.steps) c.in-Accepted.is in
+    let k = accepted (goal.at.bounds-records-sector c).In-Accepted in
     omega (arith, k.0, k.1, k.3)
 
 pub enter-after-requires : goal.enter-after-requires
 enter-after-requires c =
-    let k = known _ _ c.loop-event.yielded _ c.requires.0 _ _ c.requires.1 c.loop-event.invariant.0 (rw c.in-Some.is at c.next.ensures.steps) c.in-Accepted.is in
+    let k = accepted (goal.at.enter-after-requires c).In-Accepted in
     (c.requires.0, c.requires.1, k.0, k.1, k.2, c.loop-event.invariant.1)
 
 pub overflow_sub-records : goal.overflow_sub-records
-overflow_sub-records c =
-    let k = known _ _ c.loop-event.yielded _ c.requires.0 _ _ c.requires.1 c.loop-event.invariant.0 (rw c.in-Some.is at c.next.ensures.steps) c.in-Accepted.is in
-    k.0
+overflow_sub-records c = (accepted (goal.at.overflow_sub-records c).In-Accepted).0
 
 pub offset_bounds-records-sector-in-Accepted : goal.offset_bounds-records-sector-in-Accepted
 offset_bounds-records-sector-in-Accepted c =
-    let k = known _ _ c.loop-event.yielded _ c.requires.0 _ _ c.requires.1 c.loop-event.invariant.0 (rw c.in-Some.is at c.next.ensures.steps) c.in-Accepted.is in
+    let k = accepted (goal.at.offset_bounds-records-sector-in-Accepted c).In-Accepted in
     omega (arith, k.1, k.3)
 
 pub bounds-records-sector-in-Accepted : goal.bounds-records-sector-in-Accepted
 bounds-records-sector-in-Accepted c =
-    let k = known _ _ c.loop-event.yielded _ c.requires.0 _ _ c.requires.1 c.loop-event.invariant.0 (rw c.in-Some.is at c.next.ensures.steps) c.in-Accepted.is in
+    let k = accepted (goal.at.bounds-records-sector-in-Accepted c).In-Accepted in
     omega (arith, k.0, k.1, k.3)
 
 pub loop-event-preserved : goal.loop-event-preserved
 loop-event-preserved c =
-    let k = known _ _ c.loop-event.yielded _ c.requires.0 _ _ c.requires.1 c.loop-event.invariant.0 (rw c.in-Some.is at c.next.ensures.steps) c.in-Accepted.is in
+    let k = accepted (goal.at.loop-event-preserved c).In-Accepted in
     let l = c.loop-event in
     let e = c.enter-after in
     let at = c.in-Accepted.sector - 1 in (
