@@ -7,13 +7,6 @@ use Rattle.answers.specs.declared.Answer.{Answer}
 use Rattle.answers.specs.declared.Answer.TheVariants.{Data, Control, Defective, Refused}
 use Rattle.answers.specs.declared.Fault.TheVariants.{NoIdentifier, Doubled, NoBlock, PastEnd, OpenMark, WrongEdc, ForbiddenLetter}
 
--- A number that no other answer has counts as 21.
-pub answer_none : (n : ℕ) → (n ≡ 1 → ⊥) → (n ≡ 2 → ⊥) → (n ≡ 3 → ⊥) → (n ≡ 22 → ⊥) → (n ≡ 23 → ⊥) → (n ≡ 24 → ⊥) → (n ≡ 25 → ⊥) → (n ≡ 26 → ⊥)
-    → (n ≡ 27 → ⊥) → Refused NoIdentifier ≡ answer_of n
-unfolding answer_of
-answer_none n a b c d e f g h i =
-    rw (ne_eqb n 1 a, ne_eqb n 2 b, ne_eqb n 3 c, ne_eqb n 22 d, ne_eqb n 23 e, ne_eqb n 24 f, ne_eqb n 25 g, ne_eqb n 26 h, ne_eqb n 27 i)
-
 pub answer_back : (answer : Answer) → answer_of (answer_number answer) ≡ answer
 unfolding answer_of
 answer_back (Refused NoIdentifier) = refl

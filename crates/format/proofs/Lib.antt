@@ -10,7 +10,7 @@ pub mod Writing
 pub mod Fields
 -- how the loop over the sectors goes on
 pub mod Turns
--- the tests, one by one and one after the other
+-- the tests, one by one
 pub mod Judged
 -- what every layout has for the writers, and what is known of a call that passes
 pub mod Accepted

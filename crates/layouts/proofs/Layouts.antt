@@ -21,15 +21,6 @@ every_layout P p0 p1 p2 p3 (suc (suc zero)) = p2
 every_layout P p0 p1 p2 p3 (suc (suc (suc zero))) = p3
 every_layout P p0 p1 p2 p3 (suc (suc (suc (suc n)))) = p0
 
--- Any other number than those of layouts 1, 2 and 3 has layout 0.
-pub layout_else : (n : ℕ) → (n ≡ 1 → ⊥) → (n ≡ 2 → ⊥) → (n ≡ 3 → ⊥) → layout_of n ≡ layout0
-unfolding layout_of
-layout_else zero h1 h2 h3 = refl
-layout_else (suc zero) h1 h2 h3 = absurd (h1 refl)
-layout_else (suc (suc zero)) h1 h2 h3 = absurd (h2 refl)
-layout_else (suc (suc (suc zero))) h1 h2 h3 = absurd (h3 refl)
-layout_else (suc (suc (suc (suc n)))) h1 h2 h3 = refl
-
 -- The numbers of every layout fit each other.
 pub adds : (n : ℕ) → Adds (layout_of n)
 unfolding sector_fields fields

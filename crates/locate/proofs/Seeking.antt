@@ -20,14 +20,6 @@ located_next_lem [] b = refl
 located_next_lem (x ∷ []) b = refl
 located_next_lem (x ∷ y ∷ bs) b = refl
 
--- The same as the code goes: an event of this sector or of another.
-module _ (s x : ℕ) (before : Located) (event : Event) (block : Block) (is : event ≡ Accepted x block) where
-  pub after_own : {r : Located} → x ≡ s → r ≡ located_next before block → r ≡ located_after s before event
-  after_own h e = rw (is, eq-eqb x s h) e
-
-  pub after_other : (x ≡ s → ⊥) → before ≡ located_after s before event
-  after_other h = rw (is, ne_eqb x s h)
-
 module _ (s : ℕ) where
   pub located_after_lem : (xs : List Event) (e : Event) → located (blocks s (xs ++ e ∷ [])) ≡ located_after s (located (blocks s xs)) e
   unfolding blocks

@@ -1,4 +1,4 @@
--- What is known of a pick that its tests pass, and what it hands back.
+-- What is known of a pick that its tests pass.
 use mathlib.Core.Path.{◌≡◌, ◌∙◌}
 use mathlib.Core.Bool.{Bool, true, false}
 use mathlib.Core.List.{[], ◌∷◌}
@@ -16,21 +16,7 @@ use Rattle.pick.specs.Picks.{area_tests, pick_tests, choice}
 use Rattle.answers.specs.declared.Record.{Record}
 use Rattle.pick.specs.declared.Choice.TheVariants.{First, Second, Neither}
 
--- ---- the pass that is taken
-
-module _ (one two : Record) (a : Bool) (first : a ≡ carries one.answer) where
-  pub takes_first : a ≡ true → First one ≡ choice one two
-  takes_first h = rw (← first, h)
-
-  module _ (b : Bool) (second : b ≡ carries two.answer) (no : a ≡ false) where
-    pub takes_second : b ≡ true → Second two ≡ choice one two
-    takes_second h = rw (← first, no, ← second, h)
-
-    pub takes_neither : b ≡ false → Neither one ≡ choice one two
-    takes_neither h = rw (← first, no, ← second, h)
-
--- ---- a pick that its tests pass
-
+-- A pick that its tests pass.
 pub record Pickable (layout sector first second : ℕ) : Type 0 where
   pub known : layout ≤ highest
   pub low : 1 ≤ sector

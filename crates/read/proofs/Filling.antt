@@ -79,8 +79,3 @@ block_settled cylinder mode mark c place k high low clocks register first right 
   d.3,
   g.1 ∙ rw (g.0, d.0, length_data c place k),
 )
-
--- Zeros, and then F for the first of them.
-pub letter_put : (k : ℕ) → 1 ≤ k → set (replicate k 0) 0 letter_f ≡ letter_f ∷ replicate (k - 1) 0
-letter_put zero h = absurd (omega arith)
-letter_put (suc k) h = let e : suc k - 1 ≡ k = omega arith in rw e

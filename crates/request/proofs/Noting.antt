@@ -1,4 +1,4 @@
--- Laws of a request: the plan or the refusal that a located block gives, and what the tests before and after the walk say together.
+-- Laws of a request: what the tests before and after the walk say together.
 use mathlib.Core.Path.{◌≡◌, refl, sym, ap, ◌∙◌}
 use mathlib.Core.Bool.{false}
 use mathlib.Core.List.{List}
@@ -26,38 +26,9 @@ use Rattle.request.specs.Refusals.{call_tests, is_within, cell_of, place_tests, 
 use Rattle.request.specs.Outcomes.{first_plan, Requests}
 use Rattle.rewrite.specs.declared.Plan.{Plan}
 
--- ---- 10 and 11
-
--- What is no single block, or no block within the image.
-pub not_single : (place : Located) → ((block : Block) → place ≡ located.Single block → ⊥) → is_within place ≡ false
-unfolding is_within
-not_single located.Unmet h = refl
-not_single (located.Single block) h = absurd (h block refl)
-not_single located.Doubled h = refl
-
-pub not_within : (block : Block) → ((cell : ℕ) → block ≡ Within cell → ⊥) → is_within (located.Single block) ≡ false
-unfolding is_within
-not_within Missing h = refl
-not_within (Beyond m) h = refl
-not_within (Within m) h = absurd (h m refl)
-
 -- What a request answers that has come as far as the walk.
 abbrev placed : ℕ → Located → Result Plan Refusal
 placed layout place = by (refusal (place_tests place)) (Ok (first_plan layout place)) Err
-
-module _ (layout : ℕ) (place : Located) where
-  pub not_located : is_within place ≡ false → Err Unreadable ≡ placed layout place
-  unfolding by refusal place_tests
-  not_located e = rw e
-
-  module _ (m : ℕ) (is : place ≡ located.Single (Within m)) where
-    pub off_boundary : (m % 8 ≡ 0 → ⊥) → Err OffBoundary ≡ placed layout place
-    unfolding by refusal place_tests is_within cell_of
-    off_boundary h = rw (is, ne_eqb (m % 8) 0 h)
-
-    pub on_boundary : m % 8 ≡ 0 → Ok (record { layout = layout; place = m; made = 0 }) ≡ placed layout place
-    unfolding by refusal place_tests is_within cell_of
-    on_boundary h = rw (is, eq-eqb (m % 8) 0 h)
 
 -- ---- a request
 

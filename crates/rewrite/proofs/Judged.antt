@@ -1,4 +1,4 @@
--- Laws of a step's tests: which refusal each way through them gives, what is known where all pass, and the two ways in which a step ends.
+-- Laws of a step's tests: what is known where all pass, and the two ways in which a step ends.
 use mathlib.Core.Path.{◌≡◌, refl, sym, ap, ◌∙◌}
 use mathlib.Core.Bool.{Bool, true, false, not, ◌&&◌, and-eq-true_iff}
 use mathlib.Core.List.{List, [], ◌∷◌}
@@ -33,29 +33,6 @@ use Rattle.std.specs.Prelude.{is_some}
 -- ---- a mark at a place
 
 module _ (l : Layout) (image : List ℕ) (place : ℕ) where
-  -- Off a byte boundary, or past the end.
-  pub off_boundary : (place % 8 ≡ 0 → ⊥) → false ≡ holds_block l image place
-  unfolding holds_block
-  off_boundary h = rw (ne_eqb (place % 8) 0 h)
-
-  module _ (boundary : place % 8 ≡ 0) (end : ℕ) (known : end ≡ block_end l place) where
-    -- The block's end in cells.
-    end_cells : place + block_cells l ≡ 8 * end
-    end_cells = omega arith
-
-    pub past_end : length image < end → false ≡ holds_block l image place
-    unfolding holds_block
-    past_end h = rw (eq-eqb (place % 8) 0 boundary, lt-leb (place + block_cells l) (8 * length image) (omega (arith, end_cells)))
-
-    -- Within the image the mark that its byte begins decides.
-    pub by_mark : end ≤ length image → (f : Found)
-        → f ≡ standing l.mode (cell image) (8 * length image) block_marks (8 * (place / 8)) → is_some f ≡ holds_block l image place
-    unfolding holds_block is_standing
-    by_mark h f e =
-        let whole : 8 * (place / 8) ≡ place = omega arith in
-        rw (eq-eqb (place % 8) 0 boundary, le-leb (place + block_cells l) (8 * length image) (omega (arith, end_cells)))
-        (ap is_some (rw whole at e))
-
   -- What it says where it holds.
   holds_known : holds_block l image place ≡ true → (place % 8 ≡ 0) × (place + block_cells l ≤ 8 * length image)
   unfolding holds_block
@@ -79,47 +56,6 @@ mark_right mark e = go (eqb mark (mark_byte Data)) (eqb mark (mark_byte Control)
     go true b p q e = omega (arith, eqb-true mark (mark_byte Data) p)
     go false true p q e = omega (arith, eqb-true mark (mark_byte Control) q)
     go false false p q e = absurd (clash cc)
-
--- ---- 13 and 12
-
-module _ (l : Layout) (plan : Plan) (mark : ℕ) (contents image : List ℕ) where
-  -- What is known where 4, 1, 5 and 6 pass: 13 and 12 decide.
-  pub record Handed : Type 0 where
-    pub judged : told (refusal (block_test l image plan.place ∷ finished_test l plan mark contents image ∷ []))
-        ≡ told (refusal (plan_tests l plan mark contents image))
-    pub short : length image ≤ longest_image
-    pub whole : length contents ≡ l.size
-
-  pub handed : Ok _ ≡ told (refusal (number_test plan.layout ∷ []))
-      → Ok _ ≡ told (refusal (image_test (length image) ∷ []))
-      → Ok _ ≡ told (refusal (area_test l.size (length contents) ∷ []))
-      → Ok _ ≡ told (refusal (mark_test mark ∷ [])) → Handed
-  unfolding plan_tests
-  handed d e f g =
-      let one = first_passed _ _ (told_passed _ e) in
-      let five = first_passed _ _ (told_passed _ f) in
-      record {
-        judged = then_passed _ _ g ∙ then_passed _ _ f ∙ then_passed _ _ e ∙ then_passed _ _ d;
-        short = ltb-false longest_image (length image) (or_right (eqb (length image) 0) _ one.0);
-        whole = area_right l.size (length contents) five.0;
-      }
-
-  module _ (h : Handed) (b : Bool) (block_said : b ≡ holds_block l image plan.place) where
-    pub no_block : b ≡ false → Err NoBlock ≡ told (refusal (plan_tests l plan mark contents image))
-    unfolding told by refusal
-    no_block f = rw (← block_said, f) at h.judged
-
-    module _ (holds : b ≡ true) (count : ℕ) (counts : count ≡ store_count l plan.place (length image)) where
-      counted : count ≡ length (planned l plan mark contents image)
-      counted = counts ∙ sym (stores_count l image plan.place (mark_of mark) contents h.whole)
-
-      pub finished : count ≤ plan.made → Err Finished ≡ told (refusal (plan_tests l plan mark contents image))
-      unfolding told by refusal
-      finished u = rw (← block_said, holds, ← counted, le-leb count plan.made u) at h.judged
-
-      pub unfinished : plan.made < count → Ok _ ≡ told (refusal (plan_tests l plan mark contents image))
-      unfolding told by refusal
-      unfinished u = rw (← block_said, holds, ← counted, lt-leb count plan.made u) at h.judged
 
 -- ---- a step; l is its plan's layout
 

@@ -6,5 +6,3 @@ pub mod Listing
 pub mod Picking
 -- two reads and a pick, as a caller uses them
 pub mod Passes
--- a plan in numbers
-pub mod Planning

@@ -8,7 +8,6 @@ use Rattle.layouts.specs.declared.Track.{Track}
 use Rattle.calls.proofs.Refusals.{told_passed}
 use Rattle.format.specs.Order.{Numbered}
 use Rattle.format.proofs.Parts.{length_numbers, numbered, natural}
-use Rattle.format.proofs.Judged.{refused_format}
 use Rattle.format.proofs.Accepted.{usable, accepted, in_natural_order}
 use Rattle.format.proofs.format.Goals as goal
 

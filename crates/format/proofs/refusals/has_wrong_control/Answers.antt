@@ -1,11 +1,9 @@
 -- `has_wrong_control` meets its contract: the sectors that are left tell what all tell.
-use Prim.Native.Nat.{ℕ, ◌+◌, ◌<◌, ◌≤◌}
-use mathlib.Core.Path.{sym, ap, ◌∙◌}
-use native.Mathlib.Nat.{zero-add, sub-zero}
+use Prim.Native.Nat.{ℕ, ◌+◌, ◌<◌}
+use mathlib.Core.Path.{ap, ◌∙◌}
 use native.Mathlib.Omega.{arith}
-use Rattle.format.proofs.Judged.{one_told, number_hit, number_miss, number_end, control_at}
+use Rattle.format.proofs.Judged.{one_told, number_miss, control_at}
 use Rattle.format.proofs.Turns.{left_step, next}
-use borrow.Author.Rules.{rules}
 use Rattle.format.proofs.refusals.has_wrong_control.Goals as goal
 
 pub loop-mark-preserved : goal.loop-mark-preserved

@@ -15,7 +15,3 @@ pub overflow_mul-result : goal.overflow_mul-result
 overflow_mul-result c =
     let l = c.layout_of-taken.ensures in
     rw l (omega (arith, (slot_small c.args.layout c.args.sector c.requires).1))
-
-pub returns : goal.returns
-returns c =
-    ap (λ (l : Layout). slot_part l c.args.sector c.args.pass) c.layout_of-taken.ensures
