@@ -5,6 +5,7 @@ ghost use Rattle.locate.specs.Outcomes.{Locates};
 
 use calls::Refusal;
 use layouts::TrackNumbers;
+use marks::Image;
 use walk::Block;
 
 mod locating;
@@ -27,5 +28,6 @@ pub fn locate(numbers: TrackNumbers, sector: u32, image: &[u8]) -> Result<Locate
     ensures { Locates numbers.layout numbers.cylinder numbers.side sector image.now result }
 {
     refusals::tested(numbers, image.len(), sector)?;
+    let image = Image { bytes: image };
     Ok(locating::locate_block(numbers.track(), sector as usize, image))
 }

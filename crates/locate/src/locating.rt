@@ -1,6 +1,5 @@
 // The walk that looks for the block of one sector.
 ghost use Rattle.std.specs.Prelude.{◌≡◌, ◌*◌};
-ghost use Rattle.marks.specs.Outcomes.{Housed};
 ghost use Rattle.walk.specs.Events.{blocks};
 ghost use Rattle.locate.specs.Outcomes.{located};
 ghost use Rattle.walk.specs.Outcomes.{met};
@@ -8,6 +7,7 @@ ghost use Rattle.locate.specs.Turns.{located_next, located_after};
 
 use super::Located;
 use layouts::Track;
+use marks::Image;
 use walk::{Block, Event};
 
 // Where the sector's block is, once one more of its identifiers was accepted.
@@ -38,9 +38,8 @@ fn located_after(sector: usize, before: Located, event: Event) -> Located
 }
 
 // The walk over an image, for the sake of one sector.
-pub(crate) fn locate_block(track: Track, sector: usize, image: &[u8]) -> Located
-    requires { Housed image.now }
-    ensures { result ≡ located (blocks sector (met track image.now)) }
+pub(crate) fn locate_block(track: Track, sector: usize, image: Image) -> Located
+    ensures { result ≡ located (blocks sector (met track image.entry.bytes.now)) }
 {
     let mut found = Located::Unmet;
     for event in walk::met(track, image) {

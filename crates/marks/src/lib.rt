@@ -6,9 +6,13 @@ ghost use Rattle.std.specs.Prelude.{◌≡◌, ◌+◌, ◌*◌, ◌≤◌, leng
 ghost use Rattle.cells.specs.Cells.{cell};
 ghost use Rattle.cells.specs.declared.Mode.TheVariants.{Fm, Mfm};
 ghost use Rattle.marks.specs.Marks.{spells, lies};
-ghost use Rattle.marks.specs.Outcomes.{Housed, IsString, AreMarkBytes, IsLastByte, IsLastBit, TellsBlock, TellsStanding, IsRegisterAfter, IsMarkOf};
+ghost use Rattle.marks.specs.Outcomes.{IsString, AreMarkBytes, IsLastByte, IsLastBit, TellsBlock, TellsStanding, IsRegisterAfter, IsMarkOf};
 
 use cells::Mode;
+
+mod image;
+
+pub use image::Image;
 
 // The marks: FC, FE, FB, F8, and the house mark F9 of a rewrite under way.
 #[derive(Clone, Copy, Debug, PartialEq, Eq)]
@@ -120,19 +124,18 @@ fn spelled(image: &[u8], place: usize, bytes: &[u8]) -> bool
 }
 
 // Whether the bytes stand at `place`, within the image.
-fn lying(image: &[u8], place: usize, bytes: &[u8]) -> bool
-    requires { Housed image.now × (length bytes.now ≤ 8) }
-    ensures { result ≡ lies (cell image.now) (8 * length image.now) bytes.now place }
+fn lying(image: Image, place: usize, bytes: &[u8]) -> bool
+    requires { length bytes.now ≤ 8 }
+    ensures { result ≡ lies (cell image.entry.bytes.now) (8 * length image.entry.bytes.now) bytes.now place }
 {
-    let cells = 8 * image.len();
+    let cells = 8 * image.bytes.len();
     let width = 8 * bytes.len();
-    place <= cells && width <= cells - place && spelled(image, place, bytes)
+    place <= cells && width <= cells - place && spelled(image.bytes, place, bytes)
 }
 
 // Whether the mark stands at `place`.
-pub fn stands(mode: Mode, mark: Mark, image: &[u8], place: usize) -> bool
-    requires { Housed image.now }
-    ensures { TellsStanding mode mark image.now place result }
+pub fn stands(mode: Mode, mark: Mark, image: Image, place: usize) -> bool
+    ensures { TellsStanding mode mark image.entry.bytes.now place result }
 {
     match mode {
         Mode::Fm => lying(image, place, &fm_string(mark)),

@@ -15,12 +15,12 @@ use Rattle.layouts.specs.declared.Layout.{Layout}
 use Rattle.calls.specs.declared.Refusal.{Refusal}
 use Rattle.marks.specs.Outcomes.{TellsBlock, IsString, AreMarkBytes, IsLastByte, IsLastBit, TellsStanding, IsRegisterAfter, IsMarkOf}
 use Rattle.marks.specs.declared.Mark.{Mark}
+use Rattle.marks.specs.declared.image.Image.{Image}
 use Rattle.search.specs.declared.Kinds.{Kinds}
 use Rattle.answers.specs.Outcomes.{AreUnread, IsFaultNumber, IsAnswerNumber, IsAnswerOf, TellsAnswer, IsAnswerAfter, TellsCarrying}
 use Rattle.read.specs.Outcomes.{Reads}
 use Rattle.search.specs.Outcomes.{IsMarkAt, IsFirstMark}
 use Rattle.walk.specs.Outcomes.{IsRound, IsWalk}
-use Rattle.std.specs.Borrow.{Bor}
 use Rattle.locate.specs.Outcomes.{Locates}
 use Rattle.layouts.specs.declared.Track.{Track}
 use Rattle.pick.specs.Picks.{IsChosen, IsPicked, IsStretch}
@@ -175,7 +175,7 @@ format layout cylinder side contents marks before x y p q = by_values _ _ x y (p
 pub next_round : (t : Track) (image : List ℕ) (place : ℕ) → Unique (IsRound t image place)
 next_round t image place = by_value _
 
-pub met : (t : Track) (image : Bor (List ℕ)) → Unique (IsWalk t image)
+pub met : (t : Track) (image : Image) → Unique (IsWalk t image)
 met t image = by_value _
 
 pub locate : (layout cylinder side sector : ℕ) (image : List ℕ) → Unique (Locates layout cylinder side sector image)

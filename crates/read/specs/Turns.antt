@@ -8,7 +8,6 @@ use Rattle.layouts.specs.Layouts.{most_sectors}
 use Rattle.layouts.specs.declared.Layout.{Layout}
 use Rattle.layouts.specs.declared.Track.{Track}
 use Rattle.marks.specs.Marks.{last_bit}
-use Rattle.marks.specs.Outcomes.{Housed}
 use Rattle.marks.specs.declared.Mark.{Mark}
 use Rattle.marks.specs.declared.Mark.TheVariants as marks
 use Rattle.walk.specs.Walk.{edc_right}
@@ -27,16 +26,15 @@ use Rattle.walk.specs.declared.Block.TheVariants.{Missing, Beyond, Within}
 abbrev pub Modest : Layout → Type 0
 Modest l = (l.size ≤ 65536) × (l.sectors ≤ most_sectors) × (1 ≤ l.size)
 
--- What a function is lent that reads a block: an image of the house bound, a layout of small numbers, a block so placed, and a slot for it.
+-- What a function is lent that reads a block of an image: a layout of small numbers, a block so placed, and a slot for it.
 abbrev pub Lent : Track → (image : List ℕ) → Block → (slot : List ℕ) → Type 0
 Lent t image block slot =
-    Housed image × Modest t.layout × (length slot ≡ t.layout.size) × Placed t.layout.mode (cell image) (8 * length image) block
+    Modest t.layout × (length slot ≡ t.layout.size) × Placed t.layout.mode (cell image) (8 * length image) block
 
 -- The same with the area of all sectors, for the block of a sector that there is.
 abbrev pub LentAll : Track → (image : List ℕ) → (sector : ℕ) → Block → (area : List ℕ) → Type 0
 LentAll t image sector block area =
-    Housed image
-    × Modest t.layout
+    Modest t.layout
     × (1 ≤ sector)
     × (sector ≤ t.layout.sectors)
     × Placed t.layout.mode (cell image) (8 * length image) block

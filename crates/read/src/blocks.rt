@@ -12,7 +12,7 @@ ghost use Rattle.answers.specs.declared.Answer.TheVariants.{Refused, Defective};
 use answers::{Answer, Fault, LETTER_F, NO_PLACE, Record};
 use cells::Mode;
 use layouts::Track;
-use marks::Mark;
+use marks::{Image, Mark};
 use walk::Block;
 
 // What decoding a block says besides its bytes: the two of the EDC behind them, and how many clock cells of them all are doubtful.
@@ -119,21 +119,28 @@ fn opened(mode: Mode, image: &[u8], place: usize, slot: &mut [u8]) -> Told
 }
 
 // What the block says whose mark stands at `place`, by itself.
-fn block_told(track: Track, image: &[u8], place: usize, slot: &mut [u8]) -> Told
-    requires { Lent track image.now (Within place) slot.old }
-    ensures { Leaves (identifier_record track (cell image.now) (8 * length image.now) (Within place)) result.answer result.clocks slot.new }
+fn block_told(track: Track, image: Image, place: usize, slot: &mut [u8]) -> Told
+    requires { Lent track image.bytes.now (Within place) slot.old }
+    ensures { Leaves (identifier_record track (cell image.entry.bytes.now) (8 * length image.entry.bytes.now) (Within place)) result.answer result.clocks slot.new }
 {
     let layout = track.layout;
     let mode = layout.mode;
     let bytes = place + 16 * marks::mark_bytes(mode);
     // the data mark first, since most blocks have it; a claimed block without data or control mark has an open one
     if marks::stands(mode, Mark::Data, image, place) {
-        return checked(track.cylinder, mode, Mark::Data, image, bytes, slot);
+        return checked(track.cylinder, mode, Mark::Data, image.bytes, bytes, slot);
     }
     if marks::stands(mode, Mark::Control, image, place) {
-        return checked(track.cylinder, mode, Mark::Control, image, bytes, slot);
+        return checked(
+            track.cylinder,
+            mode,
+            Mark::Control,
+            image.bytes,
+            bytes,
+            slot,
+        );
     }
-    opened(mode, image, bytes, slot)
+    opened(mode, image.bytes, bytes, slot)
 }
 
 // A sector of which no whole block was found, or more than one identifier: it is refused, and no clock cell counts.
@@ -147,9 +154,9 @@ fn blockless(fault: Fault, slot: &mut [u8]) -> Told
 }
 
 // What an accepted identifier says of its sector, where it is the first.
-fn identifier_told(track: Track, image: &[u8], block: Block, slot: &mut [u8]) -> Told
-    requires { Lent track image.now block slot.old }
-    ensures { Leaves (identifier_record track (cell image.now) (8 * length image.now) block) result.answer result.clocks slot.new }
+fn identifier_told(track: Track, image: Image, block: Block, slot: &mut [u8]) -> Told
+    requires { Lent track image.bytes.now block slot.old }
+    ensures { Leaves (identifier_record track (cell image.entry.bytes.now) (8 * length image.entry.bytes.now) block) result.answer result.clocks slot.new }
 {
     match block {
         Block::Missing => blockless(Fault::NoBlock, slot),
@@ -181,13 +188,13 @@ fn is_unmet(answer: Answer) -> bool
 // What a sector is that answered `before`, once one more of its identifiers was accepted.
 pub(crate) fn next_record(
     track: Track,
-    image: &[u8],
+    image: Image,
     before: Answer,
     block: Block,
     slot: &mut [u8],
 ) -> Record
-    requires { Lent track image.now block slot.old }
-    ensures { Gives (next track (cell image.now) (8 * length image.now) before block) result slot.new }
+    requires { Lent track image.bytes.now block slot.old }
+    ensures { Gives (next track (cell image.entry.bytes.now) (8 * length image.entry.bytes.now) before block) result slot.new }
 {
     if is_unmet(before) {
         let told = identifier_told(track, image, block, slot);

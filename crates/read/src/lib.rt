@@ -7,6 +7,7 @@ ghost use Rattle.read.specs.Outcomes.{Reads};
 use answers::Record;
 use calls::Refusal;
 use layouts::{MOST_SECTORS, TrackNumbers};
+use marks::Image;
 
 mod blocks;
 mod refusals;
@@ -34,5 +35,6 @@ pub fn read(numbers: TrackNumbers, image: &[u8], area: &mut [u8]) -> Result<Read
     let tested = refusals::read_tested(numbers, image.len(), area.len());
     cells::clear(area);
     tested?;
+    let image = Image { bytes: image };
     Ok(tracks::read_track(numbers.track(), image, area))
 }

@@ -1,7 +1,6 @@
 // The reader's walk over a whole track, which keeps every sector's record and slot.
 ghost use Rattle.std.specs.Prelude.{◌≡◌, ◌*◌, length, replicate};
 ghost use Rattle.cells.specs.Cells.{cell};
-ghost use Rattle.marks.specs.Outcomes.{Housed};
 ghost use Rattle.walk.specs.Outcomes.{met};
 ghost use Rattle.read.specs.Records.{area_of};
 ghost use Rattle.read.specs.Turns.{Modest, LentAll, Enters, next};
@@ -11,20 +10,21 @@ use super::Reading;
 use super::blocks::next_record;
 use answers::{Answer, Record};
 use layouts::Track;
+use marks::Image;
 use walk::{Block, Event};
 
 // A sector's record, and its slot in the area, once one more of its identifiers was accepted.
 #[tactic(auto, using(layouts::proofs::Layouts::slot_room))]
 fn enter(
     track: Track,
-    image: &[u8],
+    image: Image,
     before: Answer,
     sector: usize,
     block: Block,
     area: &mut [u8],
 ) -> Record
-    requires { LentAll track image.now sector block area.old }
-    ensures { Enters (next track (cell image.now) (8 * length image.now) before block) track.layout.size sector area.old result area.new }
+    requires { LentAll track image.bytes.now sector block area.old }
+    ensures { Enters (next track (cell image.entry.bytes.now) (8 * length image.entry.bytes.now) before block) track.layout.size sector area.old result area.new }
 {
     let layout = track.layout;
     let start = (sector - 1) * layout.size;
@@ -33,9 +33,9 @@ fn enter(
 }
 
 // The walk, on a track that has passed the tests. The area comes in all zero.
-pub(crate) fn read_track(track: Track, image: &[u8], area: &mut [u8]) -> Reading
-    requires { Housed image.now × Modest track.layout × (area.old ≡ replicate (track.layout.sectors * track.layout.size) 0) }
-    ensures { (result ≡ reading track image.now) × (area.new ≡ area_of track (cell image.now) (8 * length image.now) (met track image.now)) }
+pub(crate) fn read_track(track: Track, image: Image, area: &mut [u8]) -> Reading
+    requires { Modest track.layout × (area.old ≡ replicate (track.layout.sectors * track.layout.size) 0) }
+    ensures { (result ≡ reading track image.entry.bytes.now) × (area.new ≡ area_of track (cell image.entry.bytes.now) (8 * length image.entry.bytes.now) (met track image.entry.bytes.now)) }
 {
     let mut records = answers::unread_records();
     // in this order, in which the back end holds the bad ones in a register: noise is full of them

@@ -3,25 +3,24 @@
 
 ghost use Rattle.std.specs.Prelude.{◌≡◌, ◌≤◌, ◌<◌};
 ghost use Rattle.calls.specs.Refusals.{told};
-ghost use Rattle.marks.specs.Outcomes.{Housed};
 ghost use Rattle.verdicts.specs.Tests.{refusal};
 ghost use Rattle.rewrite.specs.Refusals.{holds_block, plan_tests};
 
 use super::values::Block;
 use calls::Refusal;
+use marks::Image;
 use search::BLOCK_MARKS;
 
 // Whether a data, control or open mark stands at the plan's place on a byte boundary, with its block within the image.
 #[tactic(auto, unfolding(crate::specs::Refusals::holds_block, search::specs::Search::is_standing))]
-fn holds_block(block: Block, image: &[u8]) -> bool
-    requires { Housed image.now }
-    ensures { result ≡ holds_block block.layout image.now block.plan.place }
+fn holds_block(block: Block, image: Image) -> bool
+    ensures { result ≡ holds_block block.layout image.entry.bytes.now block.plan.place }
 {
     let place = block.plan.place as usize;
     if place % 8 != 0 {
         return false;
     }
-    if image.len() < block.end() {
+    if image.bytes.len() < block.end() {
         return false;
     }
     search::mark_at(block.layout.mode, BLOCK_MARKS, image, place / 8).is_some()
@@ -40,7 +39,7 @@ pub(crate) fn plan_tests(
     calls::image_length(image.len())?;
     calls::area_length(block.layout.size, contents.len())?;
     calls::mark_byte(mark)?;
-    if !holds_block(block, image) {
+    if !holds_block(block, Image { bytes: image }) {
         return Err(Refusal::NoBlock);
     }
     let count = block.stores(image.len());

@@ -6,9 +6,9 @@ use mathlib.Core.Logic.{⊎_elim}
 use Prim.Native.Nat.{ℕ, ◌+◌, ◌-◌, ◌*◌, ◌/◌, ◌%◌, ◌<◌, ◌≤◌, min, max}
 use native.Mathlib.Omega.{arith}
 use lib.ListN.{length, get_or}
-use Rattle.cells.specs.Cells.{cell}
+use Rattle.cells.specs.Cells.{cell, octet}
 use Rattle.cells.specs.declared.Mode.{Mode}
-use Rattle.cells.proofs.Joined.{aligned, cell_lt}
+use Rattle.cells.proofs.Joined.{octet_lt, cell_lt}
 use Rattle.marks.specs.Marks.{mark_bytes}
 use Rattle.search.specs.Search.{standing, is_standing, first_mark, Found}
 use Rattle.search.specs.Aids.{Rules}
@@ -92,58 +92,57 @@ module _ (mode : Mode) (kinds : Kinds) (s : List ℕ) where
             rest = λ p k low l e x. now.rest p k low (omega arith) e (λ z. omega arith);
           }
 
-  module _ (bytes : (j : ℕ) → get_or s j 0 < 256) where
-    -- k cells before a byte, by its entry
-    passed : (next r p k : ℕ) → Rules mode kinds (get_or s next 0) r → 0 < k → k ≤ 8 → p + k ≡ 8 * next → (k ≡ r % 16 → ⊥) → (k ≡ r / 16 → ⊥)
-        → standing_at p ≡ false
-    passed next r p k known low high e x y =
-        not_standing mode (cell s) (8 * length s) kinds p
-        (known.2 (cell s) (cell_lt s) (8 * length s) p k low high (rw e (aligned s next (bytes next) (bytes (next + 1)))) x y)
+  -- k cells before a byte, by its entry
+  passed : (next r p k : ℕ) → Rules mode kinds (octet (cell s) (8 * next)) r → 0 < k → k ≤ 8 → p + k ≡ 8 * next → (k ≡ r % 16 → ⊥) → (k ≡ r / 16 → ⊥)
+      → standing_at p ≡ false
+  passed next r p k known low high e x y =
+      not_standing mode (cell s) (8 * length s) kinds p
+      (known.2 (cell s) (cell_lt s) (8 * length s) p k low high (rw e refl) x y)
 
-    -- The whole entry is left.
-    pub entry : (next from to r : ℕ) → 0 < next → Rules mode kinds (get_or s next 0) r → Left next from to r
-    entry next from to r first known =
-        let high = known.1 in
-        record {
-          ordered = known.0;
-          most = high;
-          reached =
-              first_skip mode (cell s) (8 * length s) kinds (max from (8 * next - 8)) (max from (8 * next - r % 16)) to (omega arith)
-              (λ q a b. passed next r q (8 * next - q) known (omega arith) (omega arith) (omega arith) (λ z. omega arith) (λ z. grind (arith, known.0)));
-          rest = λ p k low l e x. passed next r p k known low (omega arith) e (λ z. omega arith) x;
-        }
+  -- The whole entry is left.
+  pub entry : (next from to r : ℕ) → 0 < next → Rules mode kinds (octet (cell s) (8 * next)) r → Left next from to r
+  entry next from to r first known =
+      let high = known.1 in
+      record {
+        ordered = known.0;
+        most = high;
+        reached =
+            first_skip mode (cell s) (8 * length s) kinds (max from (8 * next - 8)) (max from (8 * next - r % 16)) to (omega arith)
+            (λ q a b. passed next r q (8 * next - q) known (omega arith) (omega arith) (omega arith) (λ z. omega arith) (λ z. grind (arith, known.0)));
+        rest = λ p k low l e x. passed next r p k known low (omega arith) e (λ z. omega arith) x;
+      }
 
-    -- The bytes from `low` up to `high` are none that the table has: so the search goes on before `high`.
-    module _ (begins : List ℕ) (known : (byte : ℕ) → byte < 256 → Rules mode kinds byte (get_or begins byte 0)) (from to low high : ℕ) (first : 0 < low)
-        (upward : low ≤ high) (none : (at : ℕ) → low ≤ at → at < high → get_or begins (get_or s at 0) 0 ≡ 0)
-        (reached : from_to from to ≡ from_to (max from (8 * low - 8)) to) where
-      on : from_to from to ≡ from_to (max from (8 * high - 8)) to
-      on =
-          reached
-          ∙ first_skip mode (cell s) (8 * length s) kinds (max from (8 * low - 8)) (max from (8 * high - 8)) to (omega arith) pass
-        where
-          pass : (q : ℕ) → max from (8 * low - 8) ≤ q → q < max from (8 * high - 8) → standing_at q ≡ false
-          pass q a b =
-              let none_here = none (q / 8 + 1) (omega arith) (omega arith) in
-              passed (q / 8 + 1) 0 q (8 - q % 8) (rw none_here at (known (get_or s (q / 8 + 1) 0) (bytes (q / 8 + 1)))) (omega arith) (omega arith) (omega arith)
-              (λ z. omega arith) (λ z. omega arith)
+  -- The bytes from `low` up to `high` are none that the table has: so the search goes on before `high`.
+  module _ (begins : List ℕ) (known : (byte : ℕ) → byte < 256 → Rules mode kinds byte (get_or begins byte 0)) (from to low high : ℕ) (first : 0 < low)
+      (upward : low ≤ high) (none : (at : ℕ) → low ≤ at → at < high → get_or begins (octet (cell s) (8 * at)) 0 ≡ 0)
+      (reached : from_to from to ≡ from_to (max from (8 * low - 8)) to) where
+    on : from_to from to ≡ from_to (max from (8 * high - 8)) to
+    on =
+        reached
+        ∙ first_skip mode (cell s) (8 * length s) kinds (max from (8 * low - 8)) (max from (8 * high - 8)) to (omega arith) pass
+      where
+        pass : (q : ℕ) → max from (8 * low - 8) ≤ q → q < max from (8 * high - 8) → standing_at q ≡ false
+        pass q a b =
+            let none_here = none (q / 8 + 1) (omega arith) (omega arith) in
+            passed (q / 8 + 1) 0 q (8 - q % 8) (rw none_here at (known (octet (cell s) (8 * (q / 8 + 1))) (octet_lt (cell s) (cell_lt s) (8 * (q / 8 + 1))))) (omega arith) (omega arith) (omega arith)
+            (λ z. omega arith) (λ z. omega arith)
 
-      -- There it finds something, or it goes on before the next byte; and at the end it finds nothing.
-      pub turn_found : {r : Found} → from_to (max from (8 * high - 8)) to ≡ r → r ≡ from_to from to
-      turn_found f = sym (on ∙ f)
+    -- There it finds something, or it goes on before the next byte; and at the end it finds nothing.
+    pub turn_found : {r : Found} → from_to (max from (8 * high - 8)) to ≡ r → r ≡ from_to from to
+    turn_found f = sym (on ∙ f)
 
-      pub turn_none : from_to (max from (8 * high - 8)) to ≡ from_to (max from (8 * high)) to → from_to from to ≡ from_to (max from (8 * (high + 1) - 8)) to
-      turn_none f =
-          let next : max from (8 * high) ≡ max from (8 * (high + 1) - 8) = omega arith in
-          on ∙ f ∙ ap (λ (x : ℕ). from_to x to) next
+    pub turn_none : from_to (max from (8 * high - 8)) to ≡ from_to (max from (8 * high)) to → from_to from to ≡ from_to (max from (8 * (high + 1) - 8)) to
+    turn_none f =
+        let next : max from (8 * high) ≡ max from (8 * (high + 1) - 8) = omega arith in
+        on ∙ f ∙ ap (λ (x : ℕ). from_to x to) next
 
-    -- The bytes from `low` on and before `end` are none that the table has, and behind them no place is left: so the search finds nothing.
-    pub turn_end : (begins : List ℕ) → ((byte : ℕ) → byte < 256 → Rules mode kinds byte (get_or begins byte 0)) → (from to low end : ℕ) → 0 < low
-        → ((at : ℕ) → low ≤ at → at < end → get_or begins (get_or s at 0) 0 ≡ 0) → from_to from to ≡ from_to (max from (8 * low - 8)) to
-        → end ≡ min (length s + 2 - 2 * mark_bytes mode) (to / 8 + 2) → None ≡ from_to from to
-    turn_end begins known from to low end first none reached e =
-        let high = max low end in
-        sym (on begins known from to low high first (omega arith) (λ at l h. none at l (omega arith)) reached
-        ∙ ⊎_elim (first_end mode (cell s) (8 * length s) kinds (max from (8 * high - 8)) to)
-        (λ l. first_beyond mode (cell s) (8 * length s) kinds (max from (8 * high - 8)) to (omega arith))
-        (le_or_lt to (max from (8 * high - 8))))
+  -- The bytes from `low` on and before `end` are none that the table has, and behind them no place is left: so the search finds nothing.
+  pub turn_end : (begins : List ℕ) → ((byte : ℕ) → byte < 256 → Rules mode kinds byte (get_or begins byte 0)) → (from to low end : ℕ) → 0 < low
+      → ((at : ℕ) → low ≤ at → at < end → get_or begins (octet (cell s) (8 * at)) 0 ≡ 0) → from_to from to ≡ from_to (max from (8 * low - 8)) to
+      → end ≡ min (length s + 2 - 2 * mark_bytes mode) (to / 8 + 2) → None ≡ from_to from to
+  turn_end begins known from to low end first none reached e =
+      let high = max low end in
+      sym (on begins known from to low high first (omega arith) (λ at l h. none at l (omega arith)) reached
+      ∙ ⊎_elim (first_end mode (cell s) (8 * length s) kinds (max from (8 * high - 8)) to)
+      (λ l. first_beyond mode (cell s) (8 * length s) kinds (max from (8 * high - 8)) to (omega arith))
+      (le_or_lt to (max from (8 * high - 8))))

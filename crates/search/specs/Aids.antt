@@ -3,7 +3,6 @@ use Rattle.std.specs.Prelude.{cond, List, ◌≡◌, ℕ, zero, suc, ◌+◌, �
 use Rattle.cells.specs.Cells.{cell, octet}
 use Rattle.cells.specs.declared.Mode.{Mode}
 use Rattle.marks.specs.Marks.{string, mark_bytes, mark_cells}
-use Rattle.marks.specs.Outcomes.{Housed}
 use Rattle.marks.specs.declared.Mark.{Mark}
 use Rattle.marks.specs.declared.Mark.TheVariants.{Identifier, Data, Control, Open}
 use Rattle.search.specs.Search.{among, choose, standing, first_mark, Found}
@@ -49,14 +48,14 @@ Rules mode kinds byte r =
 
 -- A byte near which a place can be told: it is not the image's first, and a mark that begins with the byte before it has room.
 abbrev pub Near : Mode → List ℕ → ℕ → Type 0
-Near mode image next = Housed image × (0 < next) × (next + 2 * mark_bytes mode ≤ length image + 1)
+Near mode image next = (0 < next) × (next + 2 * mark_bytes mode ≤ length image + 1)
 
 -- What is sought in a table, among the image's bytes from `from` up to and without `end`: the first that has an entry, which is r.
 abbrev pub Seeks : (begins image : List ℕ) → (from end : ℕ) → Option (ℕ × ℕ) → Type 0
 Seeks begins image from end (Some (next, r)) =
-    (from ≤ next) × (next < end) × (0 < r) × (r ≡ get_or begins (get_or image next 0) 0)
-    × ((at : ℕ) → from ≤ at → at < next → get_or begins (get_or image at 0) 0 ≡ 0)
-Seeks begins image from end None = (at : ℕ) → from ≤ at → at < end → get_or begins (get_or image at 0) 0 ≡ 0
+    (from ≤ next) × (next < end) × (0 < r) × (r ≡ get_or begins (octet (cell image) (8 * next)) 0)
+    × ((at : ℕ) → from ≤ at → at < next → get_or begins (octet (cell image) (8 * at)) 0 ≡ 0)
+Seeks begins image from end None = (at : ℕ) → from ≤ at → at < end → get_or begins (octet (cell image) (8 * at)) 0 ≡ 0
 
 -- What is found within eight cells before a byte, if something is, is what the search finds from there on; else the search goes on.
 abbrev pub Tries : Mode → Kinds → List ℕ → (next from to : ℕ) → Found → Type 0

@@ -1,4 +1,4 @@
--- What each public function of this crate promises. The house bound is that of marks.
+-- What each public function of this crate promises.
 use Rattle.std.specs.Prelude.{List, ◌≡◌, ℕ, ◌*◌, length}
 use Rattle.cells.specs.Cells.{cell}
 use Rattle.cells.specs.declared.Mode.{Mode}

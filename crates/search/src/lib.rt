@@ -1,11 +1,10 @@
 // The search for the first mark of given kinds, and the look whether one begins with a byte.
 #![tactic(auto)]
 
-ghost use Rattle.marks.specs.Outcomes.{Housed};
 ghost use Rattle.search.specs.Outcomes.{IsMarkAt, IsFirstMark};
 
 use cells::Mode;
-use marks::Mark;
+use marks::{Image, Mark};
 
 mod places;
 mod tables;
@@ -34,14 +33,13 @@ pub const BLOCK_MARKS: Kinds = Kinds {
 };
 
 // The mark of the kinds that the byte `at` begins, if one does, with its cell. This looks in no table, as a search does.
-pub fn mark_at(mode: Mode, kinds: Kinds, image: &[u8], at: usize) -> Option<(usize, Mark)>
-    requires { Housed image.now }
-    ensures { IsMarkAt mode kinds image.now at result }
+pub fn mark_at(mode: Mode, kinds: Kinds, image: Image, at: usize) -> Option<(usize, Mark)>
+    ensures { IsMarkAt mode kinds image.entry.bytes.now at result }
 {
-    if image.len() < at {
+    if image.bytes.len() < at {
         return None;
     }
-    let mark = places::begun(mode, image, at)?;
+    let mark = places::begun(mode, image.bytes, at)?;
     if !places::is_among(kinds, mark) {
         return None;
     }
@@ -49,9 +47,8 @@ pub fn mark_at(mode: Mode, kinds: Kinds, image: &[u8], at: usize) -> Option<(usi
 }
 
 // The first mark of the kinds that begins at a cell from `from` up to and without `to`, with that cell.
-pub fn find(mode: Mode, kinds: Kinds, image: &[u8], from: usize, to: usize) -> Option<(usize, Mark)>
-    requires { Housed image.now }
-    ensures { IsFirstMark mode kinds image.now from to result }
+pub fn find(mode: Mode, kinds: Kinds, image: Image, from: usize, to: usize) -> Option<(usize, Mark)>
+    ensures { IsFirstMark mode kinds image.entry.bytes.now from to result }
 {
     tables::search(tables::table_for(mode, kinds), mode, kinds, image, from, to)
 }

@@ -8,7 +8,7 @@ ghost use Rattle.search.specs.Aids.{word_at, spelled_by, Tells, Begins, Near};
 
 use super::Kinds;
 use cells::Mode;
-use marks::Mark;
+use marks::{Image, Mark};
 
 // The string of each mark that can be looked for, as one word.
 const IDENTIFIER_FM: u64 = (marks::IDENTIFIER_FM[0] as u64) * 256 + marks::IDENTIFIER_FM[1] as u64;
@@ -88,7 +88,7 @@ fn spelled_by(mode: Mode, word: u64) -> Option<Mark>
 // The mark that is spelled `back` cells before the byte `next`, if one is. In MFM the seven bytes with which all these marks begin lie within
 // eight image bytes, and are compared at once.
 fn told(mode: Mode, image: &[u8], next: usize, back: u8) -> Option<Mark>
-    requires { Near mode image.now next × (0 < back) × (back ≤ 8) }
+    requires { Near mode image.now next × (next ≤ 268435456) × (0 < back) × (back ≤ 8) }
     ensures { Tells mode (cell image.now) (8 * next - back) result }
 {
     match mode {
@@ -110,19 +110,19 @@ fn told(mode: Mode, image: &[u8], next: usize, back: u8) -> Option<Mark>
 pub(crate) fn standing(
     mode: Mode,
     kinds: Kinds,
-    image: &[u8],
+    image: Image,
     next: usize,
     back: u8,
 ) -> Option<(usize, Mark)>
-    requires { Near mode image.now next × (0 < back) × (back ≤ 8) }
-    ensures { result ≡ standing mode (cell image.now) (8 * length image.now) kinds (8 * next - back) }
+    requires { Near mode image.bytes.now next × (0 < back) × (back ≤ 8) }
+    ensures { result ≡ standing mode (cell image.entry.bytes.now) (8 * length image.entry.bytes.now) kinds (8 * next - back) }
 {
-    let mark = told(mode, image, next, back)?;
+    let mark = told(mode, image.bytes, next, back)?;
     if !is_among(kinds, mark) {
         return None;
     }
     let place = 8 * next - (back as usize);
-    if 8 * image.len() < place + 16 * marks::mark_bytes(mode) {
+    if 8 * image.bytes.len() < place + 16 * marks::mark_bytes(mode) {
         return None;
     }
     Some((place, mark))

@@ -1,15 +1,15 @@
 // The search over a table that tells, for each byte, how far before it a mark may begin.
 ghost use Rattle.std.specs.Prelude.{◌≡◌, false, ℕ, ◌+◌, ◌-◌, ◌*◌, ◌≤◌, ◌<◌, ◌/◌, min, length, get_or};
+ghost use Rattle.cells.specs.Cells.{cell, octet};
 ghost use Rattle.cells.specs.declared.Mode.TheVariants.{Fm, Mfm};
 ghost use Rattle.marks.specs.Marks.{mark_bytes};
-ghost use Rattle.marks.specs.Outcomes.{Housed};
 ghost use Rattle.search.specs.Aids.{Rules, Near, Seeks, Tries};
 ghost use Rattle.search.specs.Outcomes.{IsFirstMark};
 
 use super::Kinds;
 use super::places::standing;
 use cells::Mode;
-use marks::Mark;
+use marks::{Image, Mark};
 
 // For each image byte, how many cells before it a mark may begin that has this byte inside, 1 to 8: the lower four bits have the farther of
 // two places, the upper four the nearer, and 0 is none. Every mark but the index mark is counted, which is not looked for.
@@ -72,13 +72,13 @@ fn tried(
     begins: u8,
     mode: Mode,
     kinds: Kinds,
-    image: &[u8],
+    image: Image,
     next: usize,
     from: usize,
     to: usize,
 ) -> Option<(usize, Mark)>
-    requires { Near mode image.now next × Rules mode kinds (get_or image.now next 0) begins }
-    ensures { Tries mode kinds image.now next from to result }
+    requires { Near mode image.bytes.now next × Rules mode kinds (octet (cell image.bytes.now) (8 * next)) begins }
+    ensures { Tries mode kinds image.entry.bytes.now next from to result }
 {
     let mut left = begins;
     while left != 0 {
@@ -95,7 +95,7 @@ fn tried(
 // What the table says of an image byte.
 fn entry(begins: &[u8; 256], image: &[u8], at: usize) -> u8
     requires { at < length image.now }
-    ensures { result ≡ get_or begins.now (get_or image.now at 0) 0 }
+    ensures { result ≡ get_or begins.now (octet (cell image.now) (8 * at)) 0 }
 {
     begins[image[at] as usize]
 }
@@ -148,16 +148,16 @@ pub(crate) fn search(
     begins: &[u8; 256],
     mode: Mode,
     kinds: Kinds,
-    image: &[u8],
+    image: Image,
     from: usize,
     to: usize,
 ) -> Option<(usize, Mark)>
-    requires { Housed image.now × ((byte : ℕ) → byte < 256 → Rules mode kinds byte (get_or begins.now byte 0)) }
-    ensures { IsFirstMark mode kinds image.now from to result }
+    requires { (byte : ℕ) → byte < 256 → Rules mode kinds byte (get_or begins.now byte 0) }
+    ensures { IsFirstMark mode kinds image.entry.bytes.now from to result }
 {
-    let end = end_of(mode, image, to);
+    let end = end_of(mode, image.bytes, to);
     let mut next = from / 8 + 1;
-    while let Some((at, before)) = seek(begins, image, next, end) {
+    while let Some((at, before)) = seek(begins, image.bytes, next, end) {
         if let Some(found) = tried(before, mode, kinds, image, at, from, to) {
             return Some(found);
         }

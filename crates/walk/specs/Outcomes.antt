@@ -1,8 +1,8 @@
 -- What each public function of this crate promises.
-use Rattle.std.specs.Borrow.{Bor}
 use Rattle.std.specs.Prelude.{List, ◌≡◌, ℕ, ◌-◌, ◌*◌, length}
 use Rattle.cells.specs.Cells.{cell}
 use Rattle.layouts.specs.declared.Track.{Track}
+use Rattle.marks.specs.declared.image.Image.{Image}
 use Rattle.walk.specs.Walk.{round, walk, events, Round}
 use Rattle.walk.specs.declared.Event.{Event}
 use Rattle.walk.specs.declared.Walk.{Walk}
@@ -12,12 +12,12 @@ abbrev pub IsRound : Track → List ℕ → (place : ℕ) → Round → Type 0
 IsRound t image place answer = answer ≡ round t (cell image) (8 * length image) place
 
 -- `met` answers the walk at the first cell of a lent image.
-abbrev pub IsWalk : Track → Bor (List ℕ) → Walk → Type 0
+abbrev pub IsWalk : Track → Image → Walk → Type 0
 IsWalk t image answer = answer ≡ record { track = t; image = image; place = 0 }
 
 -- What the walk meets from the place on at which it stands.
 abbrev pub left : Walk → List Event
-left w = walk w.track (cell w.image.now) (8 * length w.image.now) (8 * length w.image.now - w.place) w.place
+left w = walk w.track (cell w.image.bytes.now) (8 * length w.image.bytes.now) (8 * length w.image.bytes.now - w.place) w.place
 
 -- What the walk meets on an image that the caller says is of this track.
 abbrev pub met : Track → List ℕ → List Event

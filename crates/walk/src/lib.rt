@@ -4,11 +4,11 @@
 
 ghost use Rattle.std.specs.Prelude.{◌≡◌};
 ghost use Rattle.std.specs.Iterator.{YieldsFirst, item_count};
-ghost use Rattle.marks.specs.Outcomes.{Housed};
 ghost use Rattle.walk.specs.Outcomes.{IsRound, IsWalk, met, left};
 
 use head::Head;
 use layouts::Track;
+use marks::Image;
 use rounds::{address_at, block_of, is_ours};
 use search::IDENTIFIER_MARKS;
 
@@ -39,13 +39,12 @@ pub enum Event {
 
 // One round of the walk, from `place` on: the next identifier mark, its address, and the block that follows. It gives what the walk meets, and
 // the cell at which it goes on, or nothing where the walk ends.
-pub fn next_round(track: Track, image: &[u8], place: usize) -> Option<(Event, usize)>
-    requires { Housed image.now }
-    ensures { IsRound track image.now place result }
+pub fn next_round(track: Track, image: Image, place: usize) -> Option<(Event, usize)>
+    ensures { IsRound track image.entry.bytes.now place result }
 {
     let layout = track.layout;
     let mode = layout.mode;
-    let end = 8 * image.len();
+    let end = 8 * image.bytes.len();
     let Some((mark, _)) = Head { image, cell: place }.next_mark(mode, IDENTIFIER_MARKS, end) else {
         return None;
     };
@@ -68,14 +67,12 @@ pub fn next_round(track: Track, image: &[u8], place: usize) -> Option<(Event, us
 #[derive(Clone, Copy)]
 pub struct Walk<'a> {
     pub track: Track,
-    pub image: &'a [u8],
+    pub image: Image<'a>,
     pub place: usize,
 }
 
 impl<'a> Iterator for Walk<'a> {
     type Item = Event;
-
-    ghost can_next = { λ s. Housed s.image.now };
 
     ghost next_gives = { YieldsFirst left };
 
@@ -89,10 +86,9 @@ impl<'a> Iterator for Walk<'a> {
 }
 
 // The walk over a track's image, from its first cell on.
-pub fn met<'a>(track: Track, image: &'a [u8]) -> Walk<'a>
-    requires { Housed image.now }
+pub fn met<'a>(track: Track, image: Image<'a>) -> Walk<'a>
     ensures is { IsWalk track image.entry result }
-    ensures all { left result ≡ met track image.entry.now }
+    ensures all { left result ≡ met track image.entry.bytes.now }
 {
     Walk {
         track,

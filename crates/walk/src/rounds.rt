@@ -1,7 +1,6 @@
 // The parts of a round: the address behind an identifier mark, and the block that an accepted identifier claims.
 ghost use Rattle.std.specs.Prelude.{◌≡◌, ◌*◌, ◌≤◌, length};
 ghost use Rattle.cells.specs.Cells.{cell};
-ghost use Rattle.marks.specs.Outcomes.{Housed};
 ghost use Rattle.walk.specs.Walk.{reach};
 ghost use Rattle.walk.specs.Turns.{AddressAt, is_ours, block_of};
 
@@ -9,7 +8,7 @@ use super::head::Head;
 use super::{Block, Event};
 use cells::Mode;
 use layouts::{Layout, Track};
-use marks::Mark;
+use marks::{Image, Mark};
 use search::EITHER_MARKS;
 
 // The four address bytes, and what the six bytes behind the identifier mark tell together.
@@ -37,9 +36,9 @@ fn reach_of(mode: Mode) -> usize
 
 // The address at `place`, the cell after an identifier mark. Each byte is read after the last bit of the one before it, the first after the
 // mark's.
-pub(crate) fn address_at(mode: Mode, image: &[u8], place: usize) -> Address
+pub(crate) fn address_at(mode: Mode, image: Image, place: usize) -> Address
     requires { place ≤ 4294967296 }
-    ensures { AddressAt mode (cell image.now) place result.cylinder result.side result.sector result.fourth result.register result.clocks }
+    ensures { AddressAt mode (cell image.entry.bytes.now) place result.cylinder result.side result.sector result.fourth result.register result.clocks }
 {
     let head = Head { image, cell: place };
     let cylinder = head.byte(0, mode, marks::last_bit(Mark::Identifier));
@@ -85,15 +84,15 @@ pub(crate) fn is_ours(track: Track, address: Address) -> bool
 // Steps 3 and 4: what an accepted identifier of `sector` gives; `after` is the cell behind the address EDC.
 pub(crate) fn block_of(
     layout: Layout,
-    image: &[u8],
+    image: Image,
     sector: usize,
     after: usize,
 ) -> Option<(Event, usize)>
-    requires { Housed image.now × (after ≤ 4294967296) }
-    ensures { result ≡ block_of layout (cell image.now) (8 * length image.now) sector after }
+    requires { after ≤ 4294967296 }
+    ensures { result ≡ block_of layout (cell image.entry.bytes.now) (8 * length image.entry.bytes.now) sector after }
 {
     let mode = layout.mode;
-    let end = 8 * image.len();
+    let end = 8 * image.bytes.len();
     let to = after + reach_of(mode) + 1;
     let Some((place, mark)) = Head { image, cell: after }.next_mark(mode, EITHER_MARKS, to) else {
         return Some((Event::Accepted(sector, Block::Missing), after));

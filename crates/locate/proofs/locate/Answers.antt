@@ -11,8 +11,8 @@ use Rattle.walk.specs.Outcomes.{met}
 use Rattle.walk.proofs.Passing.{readable}
 use Rattle.locate.proofs.locate.Goals as goal
 
-pub locate_block-requires : goal.locate_block-requires
+pub invariant_of-image : goal.invariant_of-image
 unfolding locate_tests
-locate_block-requires c =
+invariant_of-image c =
     let passes = told_passed _ c.in_ok-tested.ensures in
-    omega (arith, (readable _ _ _ _ (passed_both _ _ passes).0).long)
+    record { housed = omega (arith, (readable _ _ _ _ (passed_both _ _ passes).0).long) }

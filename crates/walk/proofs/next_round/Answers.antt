@@ -11,12 +11,12 @@ returns-in_default c = round_none _ _ _ _ _ c.next_mark.ensures c.in_default.is
 pub overflow_add-field : goal.overflow_add-field
 overflow_add-field c =
     let h = found_high _ _ _ _ _ _ _ _ _ c.next_mark.ensures c.in-Some.is in
-    omega (arith, c.mark_bytes.ensures.1, c.requires)
+    omega (arith, c.mark_bytes.ensures.1, c.args.image.housed)
 
 pub overflow_add-after : goal.overflow_add-after
 overflow_add-after c =
     let h = found_high _ _ _ _ _ _ _ _ _ c.next_mark.ensures c.in-Some.is in
-    omega (arith, c.mark_bytes.ensures.1, c.requires)
+    omega (arith, c.mark_bytes.ensures.1, c.args.image.housed)
 
 pub returns-then-end-after : goal.returns-then-end-after
 returns-then-end-after c =

@@ -7,18 +7,18 @@ use Rattle.read.proofs.blocks.block_told.Goals as goal
 
 pub returns-then-stands : goal.returns-then-stands
 returns-then-stands c =
-    block_decided _ _ _ _ marks.Data _ _ (ap (λ (k : ℕ). 16 * k) c.mark_bytes.ensures.0) c.requires.2
+    block_decided _ _ _ _ marks.Data _ _ (ap (λ (k : ℕ). 16 * k) c.mark_bytes.ensures.0) c.requires.1
     (is_data _ _ _ _ _ c.stands.ensures c.if-stands.true) c.checked.ensures
 
 pub returns-then-stands-2 : goal.returns-then-stands-2
 returns-then-stands-2 c =
-    block_decided _ _ _ _ marks.Control _ _ (ap (λ (k : ℕ). 16 * k) c.mark_bytes.ensures.0) c.requires.2
+    block_decided _ _ _ _ marks.Control _ _ (ap (λ (k : ℕ). 16 * k) c.mark_bytes.ensures.0) c.requires.1
     (is_control _ _ _ _ _ c.stands.ensures _ c.stands-2.ensures c.if-stands-2.true)
     c.checked-then-stands-2.ensures
 
 pub returns : goal.returns
 returns c =
     let s = c.requires in
-    block_open _ _ _ _ _ _ (ap (λ (k : ℕ). 16 * k) c.mark_bytes.ensures.0) s.2
-    (is_open _ _ _ _ _ c.stands.ensures _ c.stands-2.ensures c.if-stands.false c.if-stands-2.false s.3.1)
+    block_open _ _ _ _ _ _ (ap (λ (k : ℕ). 16 * k) c.mark_bytes.ensures.0) s.1
+    (is_open _ _ _ _ _ c.stands.ensures _ c.stands-2.ensures c.if-stands.false c.if-stands-2.false s.2.1)
     c.opened.ensures

@@ -11,18 +11,18 @@ use Rattle.read.proofs.blocks.identifier_told.Goals as goal
 pub block_told-requires : goal.block_told-requires
 block_told-requires c =
     let s = c.requires in
-    let image = c.args.image.now in
-    (s.0, s.1, s.2, subst (Placed c.args.track.layout.mode (cell image) (8 * length image)) c.in-Within.is s.3)
+    let image = c.args.image.bytes.now in
+    (s.0, s.1, subst (Placed c.args.track.layout.mode (cell image) (8 * length image)) c.in-Within.is s.2)
 
 pub returns-in-Missing : goal.returns-in-Missing
 returns-in-Missing c =
     leaves_refused NoBlock _ (is_missing _ _ _ _ c.in-Missing.is) c.blockless.ensures
-    c.requires.2
+    c.requires.1
 
 pub returns-in-Beyond : goal.returns-in-Beyond
 returns-in-Beyond c =
     leaves_refused PastEnd _ (is_beyond _ _ _ _ _ c.in-Beyond.is) c.blockless-in-Beyond.ensures
-    c.requires.2
+    c.requires.1
 
 pub returns-in-Within : goal.returns-in-Within
 returns-in-Within c =

@@ -10,8 +10,8 @@ use Rattle.read.proofs.blocks.next_record.Goals as goal
 
 pub place_of-requires : goal.place_of-requires
 place_of-requires c =
-    let image = c.args.image.now in
-    place_small c.args.track (cell image) (8 * length image) c.args.block c.requires.3
+    let image = c.args.image.bytes.now in
+    place_small c.args.track (cell image) (8 * length image) c.args.block c.requires.2
 
 pub returns-then-is_unmet : goal.returns-then-is_unmet
 returns-then-is_unmet c =
@@ -20,5 +20,5 @@ returns-then-is_unmet c =
 
 pub returns : goal.returns
 returns c =
-    let told = leaves_refused {place = no_place} Doubled _ refl c.blockless-told.ensures c.requires.2 in
+    let told = leaves_refused {place = no_place} Doubled _ refl c.blockless-told.ensures c.requires.1 in
     gives_placed _ (is_more _ _ _ _ _ _ c.is_unmet.ensures c.if-is_unmet.false) told refl

@@ -45,38 +45,38 @@ module _ (t : Track) (image : List ℕ) (done : List Event) {now rest : List Eve
 
 -- The same where the walk has met one.
 accepted : (c : In-Accepted) → (1 ≤ c.in-Accepted.sector) × (c.in-Accepted.sector ≤ c.args.track.layout.sectors)
-    × Placed c.args.track.layout.mode (cell c.args.image.now) (8 * length c.args.image.now) c.in-Accepted.block × Modest c.args.track.layout
+    × Placed c.args.track.layout.mode (cell c.args.image.bytes.now) (8 * length c.args.image.bytes.now) c.in-Accepted.block × Modest c.args.track.layout
 accepted c =
-    known _ _ c.loop-event.yielded _ c.requires.0 _ _ c.requires.1 c.loop-event.invariant.0 (rw c.in-Some.is at c.next.ensures.steps) c.in-Accepted.is
+    known _ _ c.loop-event.yielded _ c.args.image.housed _ _ c.requires.0 c.loop-event.invariant.0 (rw c.in-Some.is at c.next.ensures.steps) c.in-Accepted.is
 
 pub loop-event-init : goal.loop-event-init
 loop-event-init c =
     let s = c.requires in
     let unread = c.unread_records-records.ensures in
-    (rw c.into_iter-event-iterator.ensures.into_iter_gives (sym c.met-event-items.ensures.all), ap length s.2 ∙ length-replicate _ 0, rw unread (state_start _ _ _ _ s.2))
+    (rw c.into_iter-event-iterator.ensures.into_iter_gives (sym c.met-event-items.ensures.all), ap length s.1 ∙ length-replicate _ 0, rw unread (state_start _ _ _ _ s.1))
 
 pub overflow_add-bad : goal.overflow_add-bad
 overflow_add-bad c =
-    let few = counted _ _ c.loop-event.yielded _ c.requires.0 c.loop-event.invariant.0 (rw c.in-Some.is at c.next.ensures.steps) c.loop-event.invariant.2 in
+    let few = counted _ _ c.loop-event.yielded _ c.args.image.housed c.loop-event.invariant.0 (rw c.in-Some.is at c.next.ensures.steps) c.loop-event.invariant.2 in
     search rules
 
 pub loop-event-preserved-in-Bad : goal.loop-event-preserved-in-Bad
 loop-event-preserved-in-Bad c =
     let l = c.loop-event in (
-      gone_on _ _ l.yielded _ c.requires.0 l.invariant.0 (rw c.in-Some.is at c.next.ensures.steps),
+      gone_on _ _ l.yielded _ c.args.image.housed l.invariant.0 (rw c.in-Some.is at c.next.ensures.steps),
       l.invariant.1,
       rw c.in-Bad.is (state_bad _ _ _ l.invariant.2),
     )
 
 pub overflow_add-foreign : goal.overflow_add-foreign
 overflow_add-foreign c =
-    let few = counted _ _ c.loop-event.yielded _ c.requires.0 c.loop-event.invariant.0 (rw c.in-Some.is at c.next.ensures.steps) c.loop-event.invariant.2 in
+    let few = counted _ _ c.loop-event.yielded _ c.args.image.housed c.loop-event.invariant.0 (rw c.in-Some.is at c.next.ensures.steps) c.loop-event.invariant.2 in
     search rules
 
 pub loop-event-preserved-in-Foreign : goal.loop-event-preserved-in-Foreign
 loop-event-preserved-in-Foreign c =
     let l = c.loop-event in (
-      gone_on _ _ l.yielded _ c.requires.0 l.invariant.0 (rw c.in-Some.is at c.next.ensures.steps),
+      gone_on _ _ l.yielded _ c.args.image.housed l.invariant.0 (rw c.in-Some.is at c.next.ensures.steps),
       l.invariant.1,
       rw c.in-Foreign.is (state_foreign _ _ _ l.invariant.2),
     )
@@ -97,7 +97,7 @@ bounds-records-sector c =
 pub enter-after-requires : goal.enter-after-requires
 enter-after-requires c =
     let k = accepted (goal.at.enter-after-requires c).In-Accepted in
-    (c.requires.0, c.requires.1, k.0, k.1, k.2, c.loop-event.invariant.1)
+    (c.requires.0, k.0, k.1, k.2, c.loop-event.invariant.1)
 
 pub overflow_sub-records : goal.overflow_sub-records
 overflow_sub-records c = (accepted (goal.at.overflow_sub-records c).In-Accepted).0
@@ -118,7 +118,7 @@ loop-event-preserved c =
     let l = c.loop-event in
     let e = c.enter-after in
     let at = c.in-Accepted.sector - 1 in (
-      gone_on _ _ l.yielded _ c.requires.0 l.invariant.0 (rw c.in-Some.is at c.next.ensures.steps),
+      gone_on _ _ l.yielded _ c.args.image.housed l.invariant.0 (rw c.in-Some.is at c.next.ensures.steps),
       e.auto.area ∙ l.invariant.1,
       rw c.in-Accepted.is
           (state_accepted _ _ _ l.invariant.2 _ _ k.3.1 k.3.2 k.0 k.1 (ap (λ (r : Record). set l.records at r) e.ensures.0) e.ensures.1),

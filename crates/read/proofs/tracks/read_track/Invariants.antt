@@ -10,6 +10,6 @@ use Rattle.read.proofs.tracks.read_track.Given as goal
 
 abbrev pub invariant-loop-event : goal.invariant-loop-event
 invariant-loop-event l =
-    (met l.fn.track l.fn.image ≡ l.yielded ++ left l.event-iterator)
+    (met l.fn.track l.fn.image.bytes.now ≡ l.yielded ++ left l.event-iterator)
     × (length l.area ≡ l.fn.track.layout.sectors * l.fn.track.layout.size)
-    × State l.fn.track (cell l.fn.image) (8 * length l.fn.image) l.yielded l.records l.area l.bad l.foreign
+    × State l.fn.track (cell l.fn.image.bytes.now) (8 * length l.fn.image.bytes.now) l.yielded l.records l.area l.bad l.foreign

@@ -10,7 +10,7 @@ abbrev pub invariant-loop-at : goal.invariant-loop-at
 invariant-loop-at l =
     (0 < l.next)
     × (l.next ≤ 2305843009213693952)
-    × (first_mark l.mode (cell l.image) (8 * length l.image) l.kinds l.from l.to ≡ first_mark l.mode (cell l.image) (8 * length l.image) l.kinds (max l.from (8 * l.next - 8)) l.to)
+    × (first_mark l.mode (cell l.image.bytes.now) (8 * length l.image.bytes.now) l.kinds l.from l.to ≡ first_mark l.mode (cell l.image.bytes.now) (8 * length l.image.bytes.now) l.kinds (max l.from (8 * l.next - 8)) l.to)
 
 abbrev pub decreases-loop-at : goal.decreases-loop-at
 decreases-loop-at l = l.end - l.next

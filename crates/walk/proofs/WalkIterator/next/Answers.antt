@@ -14,4 +14,4 @@ returns-clause-steps c = walk_meets _ _ _ _ _ _ _ c.next_round.ensures c.in_ok-e
 pub returns-clause-goes : goal.returns-clause-goes
 returns-clause-goes c =
     let steps = walk_meets _ _ _ _ _ _ _ c.next_round.ensures c.in_ok-event.was in
-    record { on = λ _. (c.requires, tt, rw steps (omega arith)); keeps = c.requires; rests = λ _. tt }
+    record { on = λ _. (tt, tt, rw steps (omega arith)); keeps = tt; rests = λ _. tt }

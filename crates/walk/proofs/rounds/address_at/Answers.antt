@@ -25,8 +25,8 @@ returns c =
       rw x2,
       rw x3,
       rw x4,
-      six_entered a.mode Identifier (cell a.image.now) _ a.place _ _ _ _ _ _ x1 x2 x3 x4 x5 x6 _ _ _ _ _ _ _
+      six_entered a.mode Identifier (cell a.image.bytes.now) _ a.place _ _ _ _ _ _ x1 x2 x3 x4 x5 x6 _ _ _ _ _ _ _
           c.register_after-start.ensures r1 r2 r3 r4 r5 r6,
-      six_clocks a.mode Identifier (cell a.image.now) _ a.place _ _ _ _ _ _ x1 x2 x3 x4 x5 x6 c.last_bit.ensures
-          (cell_lt a.image.now),
+      six_clocks a.mode Identifier (cell a.image.bytes.now) _ a.place _ _ _ _ _ _ x1 x2 x3 x4 x5 x6 c.last_bit.ensures
+          (cell_lt a.image.bytes.now),
     )
