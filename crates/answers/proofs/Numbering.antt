@@ -1,7 +1,5 @@
 -- The papers' numbers of the answers: the way back from a number, so that no two answers share one.
 use mathlib.Core.Path.{◌≡◌, refl, sym, ap, ◌∙◌}
-use Prim.Native.Nat.{ℕ}
-use borrow.Author.Tests.{ne_eqb}
 use Rattle.answers.specs.Answers.{answer_number, answer_of}
 use Rattle.answers.specs.declared.Answer.{Answer}
 use Rattle.answers.specs.declared.Answer.TheVariants.{Data, Control, Defective, Refused}

@@ -2,23 +2,18 @@
 use mathlib.Core.Path.{◌≡◌, refl, sym, ap, ◌∙◌}
 use mathlib.Core.Bool.{Bool, true, false, cond}
 use mathlib.Core.List.{List, [], ◌∷◌}
-use Prim.Native.Nat.{ℕ, suc, ◌+◌, ◌-◌, ◌*◌, ◌<◌, ◌≤◌}
+use Prim.Native.Nat.{ℕ, suc, ◌+◌, ◌-◌, ◌*◌, ◌<◌}
 use native.Mathlib.Numerals.{add-one}
 use native.Mathlib.Omega.{arith}
-use lib.ListN.{length, get_or, drop, drop_of_length-le}
-use lib.Seq.{drop-cons}
-use borrow.Author.Tests.{eq-eqb, ne_eqb, eqb-true, not-false, lt-ltb, le-ltb}
+use lib.ListN.{length, get_or}
+use borrow.Author.Tests.{eqb-true, not-false}
 use Rattle.verdicts.specs.Tests.{Test, passed, refused, refusal, by}
-use Rattle.layouts.specs.Layouts.{layout_of, fields, numbers}
-use Rattle.calls.specs.Refusals.{told, area_test, mark_test, control_test}
-use Rattle.layouts.specs.Refusals.{track_tests}
-use Rattle.calls.proofs.Refusals.{then_passed, handed_on, answer_refused, or_left}
-use Rattle.layouts.specs.declared.Layout.{Layout}
+use Rattle.layouts.specs.Layouts.{numbers}
+use Rattle.calls.specs.Refusals.{told, control_test}
+use Rattle.calls.proofs.Refusals.{or_left}
 use Rattle.calls.specs.declared.Refusal.{Refusal}
-use Rattle.calls.specs.declared.Refusal.TheVariants.{ImageLength, MarkBytes, ControlRecord, Overfull}
-use Rattle.std.specs.Prelude.{⊤, Result, Ok, Err, IsErrAnd, is_err}
-use Rattle.format.specs.Refusals.{some, track_image_test, marks_test, controls_test, fields_test, form_tests, content_tests, format_tests}
-use Rattle.format.specs.Outcomes.{Formats}
+use Rattle.std.specs.Prelude.{⊤, Result, Ok, Err, is_err}
+use Rattle.format.specs.Refusals.{some, marks_test}
 
 -- ---- one test
 

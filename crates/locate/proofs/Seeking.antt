@@ -3,7 +3,6 @@ use mathlib.Core.Path.{◌≡◌, refl, ap, ◌∙◌}
 use mathlib.Core.Bool.{Bool, true, false, cond}
 use mathlib.Core.List.{List, [], ◌∷◌, ◌++◌, append-nil}
 use Prim.Native.Nat.{ℕ}
-use borrow.Author.Tests.{eq-eqb, ne_eqb}
 use lib.Dec.{eqb}
 use Rattle.walk.specs.Events.{blocks}
 use Rattle.locate.specs.Outcomes.{located}
@@ -11,7 +10,6 @@ use Rattle.locate.specs.Turns.{located_next, located_after}
 use Rattle.walk.specs.declared.Block.{Block}
 use Rattle.walk.specs.declared.Event.{Event}
 use Rattle.walk.specs.declared.Event.TheVariants.{Bad, Foreign, Accepted}
-use Rattle.locate.specs.declared.Located.{Located}
 use Rattle.walk.proofs.Events.{blocks_append, blocks_bad, blocks_foreign}
 
 located_next_lem : (bs : List Block) (b : Block) → located (bs ++ b ∷ []) ≡ located_next (located bs) b

@@ -1,6 +1,5 @@
 -- What is known of a pick that its tests pass.
 use mathlib.Core.Path.{◌≡◌, ◌∙◌}
-use mathlib.Core.Bool.{Bool, true, false}
 use mathlib.Core.List.{[], ◌∷◌}
 use Prim.Native.Nat.{ℕ, ◌*◌, ◌≤◌}
 use native.Mathlib.Omega.{arith}
@@ -11,10 +10,7 @@ use Rattle.layouts.proofs.Layouts.{adds, sectors_few}
 use Rattle.calls.proofs.Refusals.{sector_known}
 use Rattle.verdicts.specs.Tests.{passed, refusal}
 use Rattle.verdicts.proofs.Tests.{passed_both, first_passed}
-use Rattle.answers.specs.Answers.{carries}
-use Rattle.pick.specs.Picks.{area_tests, pick_tests, choice}
-use Rattle.answers.specs.declared.Record.{Record}
-use Rattle.pick.specs.declared.Choice.TheVariants.{First, Second, Neither}
+use Rattle.pick.specs.Picks.{area_tests, pick_tests}
 
 -- A pick that its tests pass.
 pub record Pickable (layout sector first second : ℕ) : Type 0 where

@@ -5,7 +5,7 @@ use mathlib.Core.List.{List, [], ◌∷◌, ◌++◌}
 use Prim.Native.Nat.{ℕ, zero, suc, ◌+◌, ◌-◌, ◌*◌, ◌%◌, ◌^◌, ◌<◌, ◌≤◌}
 use native.Mathlib.Omega.{arith}
 use lib.Dec.{eqb}
-use lib.ListN.{length, get_or, replicate, set}
+use lib.ListN.{length, get_or}
 use Rattle.cells.specs.Cells.{data_byte, data_bytes, byte_clocks, bytes_clocks}
 use Rattle.cells.specs.declared.Mode.{Mode}
 use Rattle.cells.proofs.Bytes.{length_data, data_append, data_at}
@@ -18,7 +18,7 @@ use Rattle.marks.proofs.Spelling.{register_all}
 use Rattle.walk.specs.Walk.{edc_right}
 use Rattle.read.specs.Records.{slot_of}
 use Rattle.read.specs.Turns.{Decodes, Checks}
-use Rattle.answers.specs.Letters.{letter_f, answer_after}
+use Rattle.answers.specs.Letters.{answer_after}
 use Rattle.answers.specs.declared.Answer.{Answer}
 
 -- ---- data bytes

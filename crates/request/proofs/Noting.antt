@@ -1,28 +1,24 @@
 -- Laws of a request: what the tests before and after the walk say together.
-use mathlib.Core.Path.{◌≡◌, refl, sym, ap, ◌∙◌}
-use mathlib.Core.Bool.{false}
+use mathlib.Core.Path.{◌≡◌, sym, ap, ◌∙◌}
 use mathlib.Core.List.{List}
-use Prim.Native.Nat.{ℕ, ◌*◌, ◌%◌, ◌<◌}
+use Prim.Native.Nat.{ℕ, ◌*◌, ◌<◌}
 use native.Mathlib.Omega.{arith}
-use borrow.Author.Tests.{eq-eqb, ne_eqb}
 use lib.ListN.{length}
 use Rattle.cells.specs.Cells.{cell}
 use Rattle.calls.specs.Refusals.{told}
 use Rattle.layouts.specs.Tracks.{track_of}
 use Rattle.calls.specs.declared.Refusal.{Refusal}
-use Rattle.calls.specs.declared.Refusal.TheVariants.{Unreadable, OffBoundary}
 use Rattle.std.specs.Prelude.{Result, Ok, Err, IsErrAnd}
 use Rattle.calls.proofs.Refusals.{told_passed, then_refused, answer_handed}
 use Rattle.verdicts.specs.Tests.{Verdict, passed, refusal, by}
 use Rattle.verdicts.proofs.Tests.{clash, append_passed, passed_both}
 use Rattle.locate.specs.Outcomes.{locate_tests, found, Locates}
-use Rattle.walk.specs.declared.Block.{Block}
 use Rattle.walk.specs.declared.Block.TheVariants.{Missing, Beyond, Within}
 use Rattle.locate.specs.declared.Located.{Located}
 use Rattle.locate.specs.declared.Located.TheVariants as located
 use Rattle.walk.proofs.Passing.{readable}
 use Rattle.locate.proofs.Fitting.{located_within}
-use Rattle.request.specs.Refusals.{call_tests, is_within, cell_of, place_tests, request_tests}
+use Rattle.request.specs.Refusals.{call_tests, cell_of, place_tests, request_tests}
 use Rattle.request.specs.Outcomes.{first_plan, Requests}
 use Rattle.rewrite.specs.declared.Plan.{Plan}
 

@@ -1,34 +1,31 @@
 -- Laws of a step's tests: what is known where all pass, and the two ways in which a step ends.
-use mathlib.Core.Path.{◌≡◌, refl, sym, ap, ◌∙◌}
+use mathlib.Core.Path.{◌≡◌, refl, ap, ◌∙◌}
 use mathlib.Core.Bool.{Bool, true, false, not, ◌&&◌, and-eq-true_iff}
-use mathlib.Core.List.{List, [], ◌∷◌}
-use Prim.Native.Nat.{ℕ, ◌+◌, ◌*◌, ◌/◌, ◌%◌, ◌≤◌, ◌<◌}
+use mathlib.Core.List.{List}
+use Prim.Native.Nat.{ℕ, ◌+◌, ◌*◌, ◌%◌, ◌≤◌, ◌<◌}
 use native.Mathlib.Omega.{arith}
-use borrow.Author.Tests.{eq-eqb, ne_eqb, eqb-true, le-leb, lt-leb, leb-true, leb-false, ltb-false, not-false}
+use borrow.Author.Tests.{eqb-true, leb-true, leb-false, not-false}
 use lib.Dec.{eqb, leb}
 use lib.ListN.{length, get_or}
 use Rattle.cells.specs.Cells.{cell}
 use Rattle.layouts.specs.Layouts.{layout_of, block_cells}
-use Rattle.calls.specs.Refusals.{told, longest_image, image_test, area_test, mark_test}
-use Rattle.layouts.specs.Refusals.{number_test}
+use Rattle.calls.specs.Refusals.{told, area_test, mark_test}
 use Rattle.layouts.specs.declared.Layout.{Layout}
 use Rattle.calls.specs.declared.Refusal.{Refusal}
-use Rattle.calls.specs.declared.Refusal.TheVariants.{Finished, NoBlock}
 use Rattle.std.specs.Prelude.{⊤, Result, Ok, Err, IsErrAnd}
-use Rattle.calls.proofs.Refusals.{or_right, told_passed, then_passed, answer_refused, answer_passed, answer_handed}
+use Rattle.calls.proofs.Refusals.{told_passed, answer_refused, answer_passed, answer_handed}
 use Rattle.marks.specs.Marks.{mark_byte, mark_of}
 use Rattle.marks.specs.declared.Mark.TheVariants.{Data, Control}
-use Rattle.search.specs.Search.{block_marks, standing, is_standing, Found}
-use Rattle.verdicts.specs.Tests.{refusal, by}
+use Rattle.search.specs.Search.{block_marks, is_standing}
+use Rattle.verdicts.specs.Tests.{refusal}
 use Rattle.verdicts.proofs.Tests.{clash, first_passed}
 use Rattle.rewrite.specs.Stores.{stored, no_store, block_end, stores, store_count}
-use Rattle.rewrite.specs.Refusals.{holds_block, planned, block_test, finished_test, plan_tests, step_tests}
+use Rattle.rewrite.specs.Refusals.{holds_block, planned, plan_tests, step_tests}
 use Rattle.rewrite.specs.Outcomes.{Steps, plan_after}
 use Rattle.rewrite.specs.declared.Plan.{Plan}
 use Rattle.rewrite.specs.declared.Store.{Store}
 use Rattle.rewrite.proofs.Counted.{size_small, count_most}
 use Rattle.rewrite.proofs.Listed.{stores_count, kind, inside}
-use Rattle.std.specs.Prelude.{is_some}
 
 -- ---- a mark at a place
 

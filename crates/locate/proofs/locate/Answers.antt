@@ -1,13 +1,8 @@
 -- `locate` meets its contract: the tests decide, and what passes them is looked for.
-use mathlib.Core.Path.{ap, ◌∙◌}
 use native.Mathlib.Omega.{arith}
-use Rattle.std.specs.Prelude.{Ok}
-use Rattle.layouts.specs.declared.Track.{Track}
-use Rattle.calls.proofs.Refusals.{told_passed, answer_handed, answer_passed}
+use Rattle.calls.proofs.Refusals.{told_passed}
 use Rattle.verdicts.proofs.Tests.{passed_both}
-use Rattle.walk.specs.Events.{blocks}
-use Rattle.locate.specs.Outcomes.{located, locate_tests}
-use Rattle.walk.specs.Outcomes.{met}
+use Rattle.locate.specs.Outcomes.{locate_tests}
 use Rattle.walk.proofs.Passing.{readable}
 use Rattle.locate.proofs.locate.Goals as goal
 

@@ -1,15 +1,9 @@
 -- `read` meets its contract: the area is cleared, the tests decide, and what passes them is read.
 use mathlib.Core.Path.{ap, ◌∙◌}
-use Prim.Native.Nat.{ℕ, ◌*◌}
+use Prim.Native.Nat.{ℕ}
 use native.Mathlib.Omega.{arith}
 use lib.ListN.{length, replicate}
-use Rattle.std.specs.Prelude.{Ok}
-use Rattle.cells.specs.Cells.{cell}
-use Rattle.layouts.specs.declared.Track.{Track}
-use Rattle.calls.proofs.Refusals.{told_passed, answer_refused, answer_passed, answer_handed}
-use Rattle.walk.specs.Outcomes.{met}
-use Rattle.read.specs.Records.{area_of}
-use Rattle.read.specs.Outcomes.{reading, read_answer, read_area}
+use Rattle.calls.proofs.Refusals.{told_passed}
 use Rattle.read.proofs.Passing.{modest, read_known, area_whole}
 use Rattle.read.proofs.read.Goals as goal
 

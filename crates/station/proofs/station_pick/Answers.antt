@@ -1,9 +1,4 @@
 -- `station_pick` meets its contract: what `choose` answers over the two records, in numbers.
-use mathlib.Core.Path.{ap, ap₂, ◌∙◌}
-use lib.ListN.{length}
-use Rattle.layouts.specs.Layouts.{layout_of}
-use Rattle.pick.specs.Picks.{chosen_of}
-use Rattle.station.specs.Picks.{pick_number, handed_on, part_of}
 use Rattle.station.proofs.Picking.{chosen_known}
 use Rattle.station.proofs.station_pick.Goals as goal
 

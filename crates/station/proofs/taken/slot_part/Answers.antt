@@ -1,8 +1,5 @@
 -- `slot_part` meets its contract: a slot's numbers are small.
-use mathlib.Core.Path.{ap}
 use native.Mathlib.Omega.{arith}
-use Rattle.layouts.specs.declared.Layout.{Layout}
-use Rattle.station.specs.Picks.{slot_part}
 use Rattle.station.proofs.Picking.{slot_small}
 use Rattle.station.proofs.taken.slot_part.Goals as goal
 
