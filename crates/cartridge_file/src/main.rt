@@ -2,6 +2,8 @@
 // there is of each. The data are counted only, so a file may be longer than what is kept of it.
 #![tactic(auto)]
 
+ghost use Rattle.std.specs.Prelude.{◌+◌, ◌≤◌, max, length};
+
 use file::{Refusal, Section, Sections, TRACK_WIDTH};
 use std::io;
 use std::io::Read;
@@ -52,7 +54,9 @@ fn print_end(rt: &impl Print) -> io::Result<()> {
 }
 
 // So many bytes from a place on, as far as they are there. (Those of a section that was found all are.)
-fn part(bytes: &[u8], start: usize, count: usize) -> &[u8] {
+fn part(bytes: &[u8], start: usize, count: usize) -> &[u8]
+    ensures { start + length result.now ≤ max start (length bytes.now) }
+{
     let rest = bytes.get(start..).unwrap_or(&[]);
     rest.get(..count).unwrap_or(rest)
 }
