@@ -3,7 +3,7 @@
 #![tactic(auto)]
 
 ghost use Rattle.std.specs.Prelude.{◌≡◌};
-ghost use Rattle.edc.specs.Register.{byte_entered};
+ghost use Rattle.edc.specs.Register.{byte_entered, bytes_entered};
 ghost use Rattle.edc.specs.Words.{word_entered, stands_for};
 ghost use Rattle.edc.specs.Outcomes.{IsByteEntered, IsBytesEntered, IsEdc};
 
@@ -67,21 +67,28 @@ fn reduced(word: u64) -> u16
     ((all ^ ((all << 5) ^ (all << 12))) % 65536) as u16
 }
 
-// The register after bytes, first to last, eight at a time, and those behind the last eight one at a time. It stands once in the library, and not in each
-// of its callers: the back end writes the turns of the second loop out, and there is no room to spare.
-#[inline(never)]
-pub fn bytes_entered(register: u16, bytes: &[u8]) -> u16
-    ensures { IsBytesEntered register bytes.now result }
+// A word that stands for the register after bytes, first to last, eight at a time, and those behind the last eight one at a time.
+fn entered(from: u64, bytes: &[u8]) -> u64
+    ensures { stands_for result ≡ bytes_entered (stands_for from) bytes.now }
 {
     let (eights, rest) = bytes.as_chunks::<8>();
-    let mut word = spread(register);
+    let mut word = from;
     for eight in eights {
         word = folded(word) ^ u64::from_be_bytes(*eight);
     }
     for byte in rest {
         word = pushed(word, *byte);
     }
-    reduced(word)
+    word
+}
+
+// The register after bytes. It stands once in the library, and not in each of its callers: the back end writes the turns of the second loop out, and
+// there is no room to spare.
+#[inline(never)]
+pub fn bytes_entered(register: u16, bytes: &[u8]) -> u16
+    ensures { IsBytesEntered register bytes.now result }
+{
+    reduced(entered(spread(register), bytes))
 }
 
 // The EDC of bytes, from the register's start.

@@ -1,4 +1,4 @@
--- `edc::bytes_entered` meets its contract. The invariant of both loops: from the register that the present word stands for the bytes that are left lead
+-- `edc::entered` meets its contract. The invariant of both loops: from the register that the present word stands for the bytes that are left lead
 -- where all of them lead from the first.
 use Rattle.std.proofs.Common.{◌≡◌, ℕ, ◌+◌, ◌*◌, ◌/◌, [], length, drop, sym, ap, ap₂, ◌∙◌, arith}
 use Rattle.std.specs.Int.{w64, from_be_bytes}
@@ -6,7 +6,7 @@ use Rattle.edc.specs.Register.{bytes_entered}
 use Rattle.edc.specs.Words.{word_entered, stands_for}
 use Rattle.edc.proofs.Laws.{bytes_step, bytes_end}
 use Rattle.edc.proofs.Words.{eight_on, part_at, word_on}
-use Rattle.edc.proofs.bytes_entered.Goals as goal
+use Rattle.edc.proofs.entered.Goals as goal
 
 pub loop-eight-preserved : goal.loop-eight-preserved
 loop-eight-preserved c =
@@ -26,4 +26,4 @@ pub loop-byte-preserved : goal.loop-byte-preserved
 loop-byte-preserved c = c.loop-byte.invariant ∙ bytes_step _ _ _ c.loop-byte.byte-index (omega arith) c.pushed-word.ensures
 
 pub returns : goal.returns
-returns c = c.reduced.ensures ∙ sym (c.loop-byte.invariant ∙ bytes_end _ _ c.loop-byte.byte-index (omega arith))
+returns c = sym (c.loop-byte.invariant ∙ bytes_end _ _ c.loop-byte.byte-index (omega arith))
