@@ -72,7 +72,7 @@ module _ (mode : Mode) (kinds : Kinds) (s : List ℕ) where
 
     -- Where nothing does, it goes on at the other number.
     module _ (more : 0 < left) (off : from ≤ 8 * next - left % 16 → 8 * next - left % 16 < to → standing mode (cell s) (8 * length s) kinds (8 * next - left % 16) ≡ None) where
-      gone : from_to (max from (8 * next - 8)) to ≡ from_to (max from (8 * next - left / 16)) to
+      pub gone : from_to (max from (8 * next - 8)) to ≡ from_to (max from (8 * next - left / 16)) to
       gone =
           let less = now.ordered more in
           now.reached
