@@ -3,7 +3,7 @@ use mathlib.Core.Bool.{Bool}
 use mathlib.Core.List.{List}
 use mathlib.Core.Path.{◌≡◌, sym, ap₂, ◌∙◌}
 use Prim.Native.Nat.{ℕ}
-use Rattle.std.specs.Prelude.{⊤, Result}
+use Rattle.std.specs.Prelude.{⊤, Option, Result}
 use Rattle.cells.specs.Outcomes.{IsOctet, IsDataByte, IsReadByte, AreReadBytes, AreZeros}
 use Rattle.coding.specs.Outcomes.{IsCoded}
 use Rattle.cells.specs.declared.Mode.{Mode}
@@ -20,7 +20,9 @@ use Rattle.search.specs.declared.Kinds.{Kinds}
 use Rattle.answers.specs.Outcomes.{AreUnread, IsFaultNumber, IsAnswerNumber, IsAnswerOf, TellsAnswer, IsAnswerAfter, TellsCarrying}
 use Rattle.read.specs.Outcomes.{Reads}
 use Rattle.search.specs.Outcomes.{IsMarkAt, IsFirstMark}
-use Rattle.walk.specs.Outcomes.{IsRound, IsWalk}
+use Rattle.walk.specs.Outcomes.{IsRound, IsNext, IsWalk}
+use Rattle.walk.specs.declared.Event.{Event}
+use Rattle.walk.specs.declared.Walk.{Walk}
 use Rattle.locate.specs.Outcomes.{Locates}
 use Rattle.layouts.specs.declared.Track.{Track}
 use Rattle.pick.specs.Picks.{IsChosen, IsPicked, IsStretch}
@@ -177,6 +179,10 @@ next_round t image place = by_value _
 
 pub met : (t : Track) (image : Image) → Unique (IsWalk t image)
 met t image = by_value _
+
+-- the walk's `next`: what it gives, and the walk at exit
+pub next : (w : Walk) → Unique (λ (o : Option Event × Walk). IsNext w o.0 o.1)
+next w x y p q = p.whole ∙ sym q.whole
 
 pub locate : (layout cylinder side sector : ℕ) (image : List ℕ) → Unique (Locates layout cylinder side sector image)
 locate layout cylinder side sector image = by_value _

@@ -2,7 +2,7 @@
 -- the walk or goes on behind what it met.
 use mathlib.Core.Path.{◌≡◌, refl, sym, ap, subst, ◌∙◌}
 use mathlib.Core.Bool.{Bool, true, false, cond}
-use mathlib.Core.List.{List, [], ◌∷◌, ◌++◌}
+use mathlib.Core.List.{List, [], ◌∷◌, ◌++◌, append_assoc}
 use Prim.Native.Nat.{ℕ, zero, suc, ◌-◌, ◌+◌, ◌≤◌, ◌<◌}
 use native.Mathlib.Omega.{arith}
 use lib.Dec.{eqb}
@@ -79,6 +79,16 @@ sound : (t : Track) (c : ℕ → ℕ) (n s : ℕ) (b : Block) → Sound t c n (A
 sound t c n s Missing h few = (h.0.0, h.0.1, tt)
 sound t c n s (Beyond m) h few = (h.0.0, h.0.1, omega (arith, h.1.0))
 sound t c n s (Within m) h few = (h.0.0, h.0.1, (omega (arith, h.1.0), h.1.1))
+
+-- One event more of the walk was met, and the rest is still to come.
+pub met_next : {all now rest : List Event} {x : Event} (done : List Event) → all ≡ done ++ now → now ≡ x ∷ rest → all ≡ (done ++ x ∷ []) ++ rest
+met_next {rest = rest} {x = x} done split next = split ∙ ap (λ es. done ++ es) next ∙ sym (append_assoc done (x ∷ []) rest)
+
+-- A round of the code that meets an accepted identifier: so it is of it too.
+pub turn_accepted : (t : Track) (c : ℕ → ℕ) (n p q : ℕ) (r : Round) (x : Event) (s : ℕ) (b : Block) → r ≡ round t c n p → r ≡ Some (x, q)
+    → x ≡ Accepted s b → n ≤ 2147483648 → (1 ≤ s) × (s ≤ t.layout.sectors) × Placed t.layout.mode c n b
+turn_accepted t c n p q r x s b told meets is few =
+    sound t c n s b (met_onward t c n p q (Accepted s b) (sym told ∙ meets ∙ ap (λ (y : Event). Some (y, q)) is)).2 few
 
 -- ---- the blocks of a sector
 

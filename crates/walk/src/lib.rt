@@ -3,8 +3,8 @@
 #![tactic(auto)]
 
 ghost use Rattle.std.specs.Prelude.{◌≡◌};
-ghost use Rattle.std.specs.Iterator.{YieldsFirst, item_count};
-ghost use Rattle.walk.specs.Outcomes.{IsRound, IsWalk, met, left};
+ghost use Rattle.std.specs.Iterator.{item_count};
+ghost use Rattle.walk.specs.Outcomes.{IsRound, IsNext, IsWalk, met, left};
 
 use head::Head;
 use layouts::Track;
@@ -74,10 +74,11 @@ pub struct Walk<'a> {
 impl<'a> Iterator for Walk<'a> {
     type Item = Event;
 
-    ghost next_gives = { YieldsFirst left };
+    ghost next_gives = { IsNext };
 
     ghost remaining = { item_count left };
 
+    #[tactic(auto, using(crate::proofs::Walking::walk_ends, crate::proofs::Walking::walk_meets))]
     fn next(&mut self) -> Option<Event> {
         let (event, next) = next_round(self.track, self.image, self.place)?;
         self.place = next;

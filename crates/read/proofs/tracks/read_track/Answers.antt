@@ -1,7 +1,7 @@
 -- `read_track` meets its contract: what it holds is what the events met so far give, and the rest is still to come.
 use borrow.Author.Rules.{rules}
 use mathlib.Core.Path.{◌≡◌, sym, ap, ◌∙◌}
-use mathlib.Core.List.{List, [], ◌∷◌, ◌++◌, append_assoc}
+use mathlib.Core.List.{List, ◌∷◌, ◌++◌}
 use Prim.Native.Nat.{ℕ, ◌+◌, ◌-◌, ◌*◌, ◌≤◌, ◌<◌}
 use native.Mathlib.Omega.{arith}
 use lib.ListN.{length, set, length-replicate}
@@ -17,7 +17,7 @@ use Rattle.read.specs.Turns.{Modest}
 use Rattle.answers.specs.declared.Record.{Record}
 use Rattle.read.proofs.States.{State, state_start, state_bad, state_foreign, state_accepted}
 use Rattle.walk.proofs.Events.{counts_few}
-use Rattle.walk.proofs.Walking.{met_few, met_accepted}
+use Rattle.walk.proofs.Walking.{met_next, met_few, met_accepted}
 use Rattle.read.proofs.tracks.read_track.Goals.{In-Accepted}
 use Rattle.read.proofs.tracks.read_track.Goals as goal
 
@@ -25,9 +25,6 @@ use Rattle.read.proofs.tracks.read_track.Goals as goal
 module _ (t : Track) (image : List ℕ) (done : List Event) {now rest : List Event} (x : Event) (housed : Housed image) where
   onto : met t image ≡ done ++ now → now ≡ x ∷ rest → met t image ≡ done ++ x ∷ rest
   onto split next = split ∙ ap (λ es. done ++ es) next
-
-  gone_on : met t image ≡ done ++ now → now ≡ x ∷ rest → met t image ≡ (done ++ x ∷ []) ++ rest
-  gone_on split next = onto split next ∙ sym (append_assoc done (x ∷ []) rest)
 
   -- What is known of an accepted identifier: its sector is one of the track's, and its block has a place.
   known : (sector : ℕ) (block : Block) → Modest t.layout → met t image ≡ done ++ now → now ≡ x ∷ rest → x ≡ Accepted sector block
@@ -47,7 +44,7 @@ module _ (t : Track) (image : List ℕ) (done : List Event) {now rest : List Eve
 accepted : (c : In-Accepted) → (1 ≤ c.in-Accepted.sector) × (c.in-Accepted.sector ≤ c.args.track.layout.sectors)
     × Placed c.args.track.layout.mode (cell c.args.image.bytes.now) (8 * length c.args.image.bytes.now) c.in-Accepted.block × Modest c.args.track.layout
 accepted c =
-    known _ _ c.loop-event.yielded _ c.args.image.housed _ _ c.requires.0 c.loop-event.invariant.0 (rw c.in-Some.is at c.next.ensures.steps) c.in-Accepted.is
+    known _ _ c.loop-event.yielded _ c.args.image.housed _ _ c.requires.0 c.loop-event.invariant.0 (rw c.in-Some.is at c.next.ensures.steps.first) c.in-Accepted.is
 
 pub loop-event-init : goal.loop-event-init
 loop-event-init c =
@@ -57,26 +54,26 @@ loop-event-init c =
 
 pub overflow_add-bad : goal.overflow_add-bad
 overflow_add-bad c =
-    let few = counted _ _ c.loop-event.yielded _ c.args.image.housed c.loop-event.invariant.0 (rw c.in-Some.is at c.next.ensures.steps) c.loop-event.invariant.2 in
+    let few = counted _ _ c.loop-event.yielded _ c.args.image.housed c.loop-event.invariant.0 (rw c.in-Some.is at c.next.ensures.steps.first) c.loop-event.invariant.2 in
     search rules
 
 pub loop-event-preserved-in-Bad : goal.loop-event-preserved-in-Bad
 loop-event-preserved-in-Bad c =
     let l = c.loop-event in (
-      gone_on _ _ l.yielded _ c.args.image.housed l.invariant.0 (rw c.in-Some.is at c.next.ensures.steps),
+      met_next l.yielded l.invariant.0 (rw c.in-Some.is at c.next.ensures.steps.first),
       l.invariant.1,
       rw c.in-Bad.is (state_bad _ _ _ l.invariant.2),
     )
 
 pub overflow_add-foreign : goal.overflow_add-foreign
 overflow_add-foreign c =
-    let few = counted _ _ c.loop-event.yielded _ c.args.image.housed c.loop-event.invariant.0 (rw c.in-Some.is at c.next.ensures.steps) c.loop-event.invariant.2 in
+    let few = counted _ _ c.loop-event.yielded _ c.args.image.housed c.loop-event.invariant.0 (rw c.in-Some.is at c.next.ensures.steps.first) c.loop-event.invariant.2 in
     search rules
 
 pub loop-event-preserved-in-Foreign : goal.loop-event-preserved-in-Foreign
 loop-event-preserved-in-Foreign c =
     let l = c.loop-event in (
-      gone_on _ _ l.yielded _ c.args.image.housed l.invariant.0 (rw c.in-Some.is at c.next.ensures.steps),
+      met_next l.yielded l.invariant.0 (rw c.in-Some.is at c.next.ensures.steps.first),
       l.invariant.1,
       rw c.in-Foreign.is (state_foreign _ _ _ l.invariant.2),
     )
@@ -118,7 +115,7 @@ loop-event-preserved c =
     let l = c.loop-event in
     let e = c.enter-after in
     let at = c.in-Accepted.sector - 1 in (
-      gone_on _ _ l.yielded _ c.args.image.housed l.invariant.0 (rw c.in-Some.is at c.next.ensures.steps),
+      met_next l.yielded l.invariant.0 (rw c.in-Some.is at c.next.ensures.steps.first),
       e.auto.area ∙ l.invariant.1,
       rw c.in-Accepted.is
           (state_accepted _ _ _ l.invariant.2 _ _ k.3.1 k.3.2 k.0 k.1 (ap (λ (r : Record). set l.records at r) e.ensures.0) e.ensures.1),
