@@ -1,4 +1,5 @@
--- What the code asks of a section as it goes over it. (Aids of the code; laws say that they are the definition's. No promise rests on them.)
+-- What the code asks of a section as it goes over it. (Aids of the code; the check opens them where a function is proved whose contract has the definition. No
+-- promise rests on them.)
 use Rattle.std.specs.Prelude.{Bool, cond, ◌||◌, List, [], ◌∷◌, ◌++◌, ℕ, ◌+◌, ◌*◌, ◌≤◌, ltb, length, Option, Some, None}
 use Rattle.verdicts.specs.Tests.{Test}
 use Rattle.layouts.specs.Layouts.{most_sectors}
